@@ -10,4 +10,4 @@ pub mod Dispatch
 pub mod Screen
 pub mod Terminal
 pub mod Promises
--- pub mod Worked
+pub mod Worked
