@@ -1,2 +1,3 @@
 pub mod Decimals
 pub mod Feeds
+pub mod Drawing
