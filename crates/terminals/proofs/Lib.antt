@@ -1,3 +1,4 @@
 pub mod Decimals
 pub mod Feeds
 pub mod Drawing
+pub mod Rows

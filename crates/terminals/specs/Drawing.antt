@@ -1,8 +1,9 @@
 -- Bytes that lead from one picture to another, row by row.
 use mathlib.Core.Path.{_≡_}
-use mathlib.Core.Bool.{Bool, true, false, cond}
+use mathlib.Core.Bool.{Bool, true, false, _&&_, cond}
 use mathlib.Core.List.{List, [], _∷_, _++_}
 use Prim.Native.Nat.{ℕ, zero, suc, _+_, _-_, _<_, _≤_}
+use lib.Dec.{eqb}
 use lib.ListN.{length, take, drop, getD, set, replicate}
 use Rattle.std.specs.Orderings.{When}
 use Rattle.std.specs.shelf.Lists.{All}
@@ -30,6 +31,10 @@ pub record Drawable (rows columns : ℕ) (p : Picture) : Type 0 where
 abbrev pub TurnsRow : (rows columns i : ℕ) (old new : Row) (r c r′ c′ : ℕ) → List ℕ → Type 0
 TurnsRow rows columns i old new r c r′ c′ bs = (g : List Row) → Rectangle rows columns g → getD g i [] ≡ old → Draws (showing g r c) (showing (set g i new) r′ c′) bs
 
+-- a move, or nothing where the cursor is there already
+abbrev pub step-bytes : (r c r′ c′ : ℕ) → List ℕ
+step-bytes r c r′ c′ = cond (eqb r r′ && eqb c c′) [] (move-bytes r′ c′)
+
 -- How a row is turned from old to new: the cells from a to b are written, and the rest is cleared or left.
 pub record Updates (old new : Row) (a b : ℕ) (clear : Bool) : Type 0 where
   pub same-before : take a old ≡ take a new
@@ -37,6 +42,10 @@ pub record Updates (old new : Row) (a b : ℕ) (clear : Bool) : Type 0 where
   pub ordered : a ≤ b
   pub to-within : b ≤ length new
   pub rest : When clear (drop b new ≡ replicate (length new - b) blank) (drop b old ≡ drop b new)
+
+-- what is sent for it, behind the move
+abbrev pub update-bytes : Row → ℕ → ℕ → Bool → List ℕ
+update-bytes new a b clear = take (b - a) (drop a new) ++ cond clear clear-bytes []
 
 -- The theorems on terminals that are outside of a sequence.
 abbrev pub Moves : Type 0
