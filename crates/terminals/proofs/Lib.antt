@@ -2,3 +2,4 @@ pub mod Decimals
 pub mod Feeds
 pub mod Drawing
 pub mod Rows
+pub mod Mixed

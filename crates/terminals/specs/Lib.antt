@@ -1,2 +1,3 @@
 pub mod Sequences
 pub mod Drawing
+pub mod Progress
