@@ -3,3 +3,5 @@ pub mod Feeds
 pub mod Drawing
 pub mod Rows
 pub mod Mixed
+pub mod Orders
+pub mod Sending
