@@ -5,3 +5,4 @@ pub mod Rows
 pub mod Mixed
 pub mod Orders
 pub mod Sending
+pub mod Painting
