@@ -7,7 +7,7 @@ use Prim.Native.Nat.{ℕ, zero, suc, _+_, _-_, _*_, _/_, _%_, _<_, _≤_, min}
 use native.Mathlib.Omega.{arith}
 use lib.Dec.{eqb, ltb, leb}
 use lib.ListN.{length}
-use Rattle.std.proofs.shelf.Tests.{lt-ltb, le-ltb, cases-lt}
+use Rattle.std.proofs.shelf.Tests.{lt-ltb, le-ltb, le-leb, lt-leb, cases-lt}
 use Rattle.spec.specs.Screen.{digits-before, decimal}
 use Rattle.spec.specs.Terminal.{more-number}
 
@@ -37,6 +37,41 @@ decimal-four n h k =
     let c : 10 ≤ n / 10 / 10 = omega arith in
     let d : n / 10 / 10 / 10 < 10 = omega arith in
     rw (le-ltb n 10 a, le-ltb (n / 10) 10 b, le-ltb (n / 10 / 10) 10 c, lt-ltb (n / 10 / 10 / 10) 10 d)
+
+-- the same, where each digit but the last may be left out
+abbrev pub digit-from : ℕ → ℕ → ℕ → List ℕ
+digit-from low n d = cond (leb low n) (d ∷ []) []
+
+pub digit-there : (low n d : ℕ) → low ≤ n → digit-from low n d ≡ d ∷ []
+digit-there low n d h = rw (le-leb low n h)
+
+pub digit-left-out : (low n d : ℕ) → n < low → digit-from low n d ≡ []
+digit-left-out low n d h = rw (lt-leb low n h)
+
+pub decimal-parts : (n : ℕ) → n ≤ 9999 → decimal n ≡ digit-from 1000 n (n / 10 / 10 / 10 + 48) ++ (digit-from 100 n (n / 10 / 10 % 10 + 48) ++ (digit-from 10 n (n / 10 % 10 + 48) ++ ((n % 10 + 48) ∷ [])))
+decimal-parts n h =
+    ⊎-elim
+    (λ (a : n < 10). rw (digit-left-out 1000 n (n / 10 / 10 / 10 + 48) (omega arith), digit-left-out 100 n (n / 10 / 10 % 10 + 48) (omega arith), digit-left-out 10 n (n / 10 % 10 + 48) a) (decimal-one n a ∙ ap (λ (x : ℕ). x ∷ []) (omega arith)))
+    (λ (a : 10 ≤ n). ⊎-elim
+    (λ (b : n < 100).
+    let x : 48 + n / 10 ≡ n / 10 % 10 + 48 = omega arith in
+    let y : 48 + n % 10 ≡ n % 10 + 48 = omega arith in
+    rw (digit-left-out 1000 n (n / 10 / 10 / 10 + 48) (omega arith), digit-left-out 100 n (n / 10 / 10 % 10 + 48) b, digit-there 10 n (n / 10 % 10 + 48) a, decimal-two n a b, x, y))
+    (λ (b : 100 ≤ n). ⊎-elim
+    (λ (c : n < 1000).
+    let x : 48 + n / 10 / 10 ≡ n / 10 / 10 % 10 + 48 = omega arith in
+    let y : 48 + n / 10 % 10 ≡ n / 10 % 10 + 48 = omega arith in
+    let z : 48 + n % 10 ≡ n % 10 + 48 = omega arith in
+    rw (digit-left-out 1000 n (n / 10 / 10 / 10 + 48) c, digit-there 100 n (n / 10 / 10 % 10 + 48) b, digit-there 10 n (n / 10 % 10 + 48) a, decimal-three n b c, x, y, z))
+    (λ (c : 1000 ≤ n).
+    let w : 48 + n / 10 / 10 / 10 ≡ n / 10 / 10 / 10 + 48 = omega arith in
+    let x : 48 + n / 10 / 10 % 10 ≡ n / 10 / 10 % 10 + 48 = omega arith in
+    let y : 48 + n / 10 % 10 ≡ n / 10 % 10 + 48 = omega arith in
+    let z : 48 + n % 10 ≡ n % 10 + 48 = omega arith in
+    rw (digit-there 1000 n (n / 10 / 10 / 10 + 48) c, digit-there 100 n (n / 10 / 10 % 10 + 48) b, digit-there 10 n (n / 10 % 10 + 48) a, decimal-four n c (omega arith), w, x, y, z))
+    (cases-lt n 1000))
+    (cases-lt n 100))
+    (cases-lt n 10)
 
 -- digits that make a number m of a number n, as a terminal reads them
 abbrev pub Digits : List ℕ → ℕ → ℕ → Type 0
