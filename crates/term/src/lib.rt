@@ -1,9 +1,16 @@
 //! From two pictures of a screen to bytes that lead every terminal from the one to the other.
 mod output;
+mod position;
+mod sequence;
 mod writer;
 
 pub use output::Output;
 pub use output::OutputWriter;
+pub use position::Position;
+pub use sequence::LONGEST_MOVE;
+pub use sequence::move_cursor;
+pub use sequence::write_clear;
+pub use sequence::write_move;
 pub use writer::ByteWriter;
 pub use writer::write_bytes;
 pub use writer::write_number;
