@@ -2,6 +2,7 @@
 mod output;
 mod position;
 mod sequence;
+mod update;
 mod writer;
 
 pub use output::Output;
@@ -11,6 +12,7 @@ pub use sequence::LONGEST_MOVE;
 pub use sequence::move_cursor;
 pub use sequence::write_clear;
 pub use sequence::write_move;
+pub use update::Update;
 pub use writer::ByteWriter;
 pub use writer::write_bytes;
 pub use writer::write_number;

@@ -6,3 +6,4 @@ pub mod Mixed
 pub mod Orders
 pub mod Sending
 pub mod Painting
+pub mod Ends
