@@ -1,6 +1,7 @@
 //! From two pictures of a screen to bytes that lead every terminal from the one to the other.
 mod output;
 mod position;
+mod row;
 mod sequence;
 mod update;
 mod writer;
