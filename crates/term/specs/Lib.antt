@@ -1,2 +1,4 @@
 pub mod Lent
 pub mod Shortest
+pub mod Scene
+pub mod Says

@@ -1,0 +1,46 @@
+//! From one picture to another.
+ghost use Prim.Native.Nat.{ℕ, _+_, _*_, _<_, _≤_};
+ghost use mathlib.Core.Path.{_≡_};
+ghost use mathlib.Core.List.{List, []};
+ghost use lib.ListN.{length, getD};
+ghost use Rattle.term.specs.Scene.{Redrawable};
+ghost use Rattle.term.specs.Says.{RowSays};
+use crate::change::Change;
+use crate::position::Position;
+use crate::row::ROW_EXTRA;
+use crate::row::write_update;
+use crate::update::shortest_update;
+use crate::writer::ByteWriter;
+
+/// Sends what turns one row, with the cursor at `at`, and says where the cursor is then. None if there is too little room.
+fn redraw_row<C: Change, W: ByteWriter>(
+    change: &mut C,
+    writer: &mut W,
+    at: Position,
+    row: u16,
+    old: &mut [u8],
+    new: &mut [u8],
+) -> Option<Position>
+    requires ready { ⌜ ready (now change) ⌝ }
+    requires pictures { ⌜ Redrawable (length (now old)) (scene (now change)) ⌝ }
+    requires buffers { ⌜ length (now new) ≡ length (now old) ⌝ }
+    requires within { ⌜ row < length (scene (now change) .before .rows) ⌝ }
+    ensures says { λ r. ⌜ RowSays (written (now (writer .entry))) (written (now (writer .exit))) (lent (now (writer .entry)) .capacity) (length (now (old .entry))) row (scene (now (change .entry))) at r ⌝ }
+    ensures stays { λ _. ⌜ scene (now (change .exit)) ≡ scene (now (change .entry)) ⌝ }
+    ensures still_ready { λ _. ⌜ ready (now (change .exit)) ⌝ }
+    ensures touches { λ _. ⌜ touched (now (change .exit)) ≤ touched (now (change .entry)) + 2 * scene (now (change .entry)) .row-touches ⌝ }
+    ensures same { λ _. ⌜ lent (now (writer .exit)) ≡ lent (now (writer .entry)) ⌝ }
+{
+    if change.unchanged(row) {
+        return Some(at);
+    }
+    change.read_before(row, old);
+    change.read_after(row, new);
+    let Some(update) = shortest_update(old, new) else {
+        return Some(at);
+    };
+    if writer.left() < ROW_EXTRA + new.len() {
+        return None;
+    }
+    Some(write_update(writer, at, row, new, update))
+}
