@@ -4,7 +4,8 @@ ghost use mathlib.Core.Path.{_≡_};
 ghost use mathlib.Core.List.{List, []};
 ghost use lib.ListN.{length, getD};
 ghost use Rattle.term.specs.Scene.{Redrawable};
-ghost use Rattle.term.specs.Says.{RowSays};
+ghost use Rattle.term.specs.Says.{RowSays, UpperSays};
+ghost use Rattle.terminals.specs.Progress.{visited};
 use crate::change::Change;
 use crate::position::Position;
 use crate::row::ROW_EXTRA;
@@ -43,4 +44,33 @@ fn redraw_row<C: Change, W: ByteWriter>(
         return None;
     }
     Some(write_update(writer, at, row, new, update))
+}
+
+/// Sends the rows above the last but the cursor's, from the top.
+fn redraw_upper<C: Change, W: ByteWriter>(
+    change: &mut C,
+    writer: &mut W,
+    start: Position,
+    last: u16,
+    cursor_row: u16,
+    old: &mut [u8],
+    new: &mut [u8],
+) -> Option<Position>
+    requires ready { ⌜ ready (now change) ⌝ }
+    requires pictures { ⌜ Redrawable (length (now old)) (scene (now change)) ⌝ }
+    requires buffers { ⌜ length (now new) ≡ length (now old) ⌝ }
+    requires within { ⌜ last < length (scene (now change) .before .rows) ⌝ }
+    ensures says { λ r. ⌜ UpperSays (written (now (writer .entry))) (written (now (writer .exit))) (lent (now (writer .entry)) .capacity) (length (now (old .entry))) last «cursor_row» (scene (now (change .entry))) start r ⌝ }
+    ensures stays { λ _. ⌜ scene (now (change .exit)) ≡ scene (now (change .entry)) ⌝ }
+    ensures still_ready { λ _. ⌜ ready (now (change .exit)) ⌝ }
+    ensures touches { λ _. ⌜ touched (now (change .exit)) + visited last «cursor_row» 0 * (2 * scene (now (change .entry)) .row-touches) ≤ touched (now (change .entry)) + visited last «cursor_row» last * (2 * scene (now (change .entry)) .row-touches) ⌝ }
+    ensures same { λ _. ⌜ lent (now (writer .exit)) ≡ lent (now (writer .entry)) ⌝ }
+{
+    let mut at = start;
+    for row in 0..last {
+        if row != cursor_row {
+            at = redraw_row(change, writer, at, row, old, new)?;
+        }
+    }
+    Some(at)
 }

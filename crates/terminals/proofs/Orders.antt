@@ -55,3 +55,7 @@ visited-skipped last cursor i h d = grind (arith, tells)
 pub visited-all : (last cursor : ℕ) → cursor ≤ last → visited last cursor last ≡ last
 unfolding visited
 visited-all last cursor h = grind (arith, tells)
+
+pub visited-below : (last cursor i : ℕ) → i < last → (i ≡ cursor → ⊥) → visited last cursor i + 1 ≤ visited last cursor last
+unfolding visited
+visited-below last cursor i h d = grind (arith, tells)
