@@ -1,4 +1,5 @@
 -- What was sent for a row, with the cursor then at a position; or the room was too little for it.
+use mathlib.Core.Bool.{Bool}
 use mathlib.Core.List.{List, []}
 use Prim.Native.Nat.{ℕ, _+_, _<_}
 use lib.ListN.{length, getD}
@@ -19,3 +20,8 @@ UpperSays first last capacity columns bottom cursor s at (Some to) =
     (start : List ℕ) → Sent start first columns (s .before) (s .after) (pending-from bottom cursor 0) (at .row) (at .column) → Sent start last columns (s .before) (s .after) (pending-from bottom cursor bottom) (to .row) (to .column)
 UpperSays first last capacity columns bottom cursor s at None =
     (start : List ℕ) → Sent start first columns (s .before) (s .after) (pending-from bottom cursor 0) (at .row) (at .column) → capacity < length start + cost columns (s .before) (s .after)
+
+-- What was sent so far, with the cursor then at a position; or the room is too little for the pictures.
+abbrev pub SentSays : (first last : List ℕ) (capacity columns : ℕ) (pending : ℕ → Bool) → Scene → Option Position → Type 0
+SentSays first last capacity columns pending s (Some to) = Sent first last columns (s .before) (s .after) pending (to .row) (to .column)
+SentSays first last capacity columns pending s None = capacity < length first + cost columns (s .before) (s .after)

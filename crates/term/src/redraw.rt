@@ -4,8 +4,8 @@ ghost use mathlib.Core.Path.{_≡_};
 ghost use mathlib.Core.List.{List, []};
 ghost use lib.ListN.{length, getD};
 ghost use Rattle.term.specs.Scene.{Redrawable};
-ghost use Rattle.term.specs.Says.{RowSays, UpperSays};
-ghost use Rattle.terminals.specs.Progress.{visited};
+ghost use Rattle.term.specs.Says.{RowSays, UpperSays, SentSays};
+ghost use Rattle.terminals.specs.Progress.{pending-from, visited};
 use crate::change::Change;
 use crate::position::Position;
 use crate::row::ROW_EXTRA;
@@ -73,4 +73,30 @@ fn redraw_upper<C: Change, W: ByteWriter>(
         }
     }
     Some(at)
+}
+
+/// Sends the last row, unless it is the cursor's.
+fn redraw_last<C: Change, W: ByteWriter>(
+    change: &mut C,
+    writer: &mut W,
+    last: u16,
+    cursor_row: u16,
+    old: &mut [u8],
+    new: &mut [u8],
+) -> Option<Position>
+    requires ready { ⌜ ready (now change) ⌝ }
+    requires pictures { ⌜ Redrawable (length (now old)) (scene (now change)) ⌝ }
+    requires buffers { ⌜ length (now new) ≡ length (now old) ⌝ }
+    requires within { ⌜ last < length (scene (now change) .before .rows) ⌝ }
+    ensures says { λ r. ⌜ SentSays (written (now (writer .entry))) (written (now (writer .exit))) (lent (now (writer .entry)) .capacity) (length (now (old .entry))) (pending-from last «cursor_row» 0) (scene (now (change .entry))) r ⌝ }
+    ensures stays { λ _. ⌜ scene (now (change .exit)) ≡ scene (now (change .entry)) ⌝ }
+    ensures still_ready { λ _. ⌜ ready (now (change .exit)) ⌝ }
+    ensures touches { λ _. ⌜ touched (now (change .exit)) ≤ touched (now (change .entry)) + visited last «cursor_row» 0 * (2 * scene (now (change .entry)) .row-touches) ⌝ }
+    ensures same { λ _. ⌜ lent (now (writer .exit)) ≡ lent (now (writer .entry)) ⌝ }
+{
+    let at = change.cursor_before();
+    if last == cursor_row {
+        return Some(at);
+    }
+    redraw_row(change, writer, at, last, old, new)
 }

@@ -1,0 +1,35 @@
+-- One row behind what was sent so far.
+use mathlib.Core.Path.{_≡_, refl, sym, ap, subst, _∙_}
+use mathlib.Core.Bool.{Bool, true}
+use mathlib.Core.List.{List, [], _∷_, _++_}
+use Prim.Native.Nat.{ℕ, _+_, _-_, _*_, _<_, _≤_}
+use native.Mathlib.Omega.{arith}
+use native.Mathlib.Nat.{one-mul}
+use lib.ListN.{length, getD}
+use Rattle.std.specs.declared.option.Option.{Option}
+use Rattle.std.specs.declared.option.Option.the-variants.{Some, None}
+use Rattle.terminals.specs.Progress.{all-pending, none-pending, pending-from, visited, Sent}
+use Rattle.terminals.proofs.Mixed.{Without}
+use Rattle.terminals.proofs.Sending.{sent-none, sent-row, sent-same, row-refused}
+use Rattle.terminals.proofs.Orders.{first-row, first-skipped, visited-first}
+use Rattle.term.specs.declared.position.Position.{Position}
+use Rattle.term.specs.Scene.{Scene, Redrawable}
+use Rattle.term.specs.Says.{RowSays, SentSays}
+use Rattle.term.proofs.Scenes.{height, after-height}
+
+pub row-behind : (first mid last : List ℕ) (capacity columns i : ℕ) (p q : ℕ → Bool) (s : Scene) (at : Position) (r : Option Position) → Redrawable columns s → i < height s → p i ≡ true → Without p q i (height s) → Sent first mid columns (s .before) (s .after) p (at .row) (at .column) → RowSays mid last capacity columns i s at r → SentSays first last capacity columns q s r
+row-behind first mid last capacity columns i p q s at (Some to) d h t w z k = sent-row first mid last (height s) columns (s .before) (s .after) p q i (at .row) (at .column) (to .row) (to .column) (d .before) (d .after .rectangle) h t w z k
+row-behind first mid last capacity columns i p q s at None d h t w z k = row-refused first mid (height s) columns (s .before) (s .after) p q i (at .row) (at .column) capacity (d .before) (d .after .rectangle) h t w z k
+
+-- the beginning, with the cursor where it was
+pub begun : (first : List ℕ) (columns : ℕ) (s : Scene) (at : Position) → Redrawable columns s → at .row ≡ s .before .cursor-row → at .column ≡ s .before .cursor-column → Sent first first columns (s .before) (s .after) all-pending (at .row) (at .column)
+begun first columns s at d a b = rw (a, b) (sent-none first columns (s .before) (s .after) (sym (after-height columns s d)))
+
+pub last-skipped : (first : List ℕ) (columns bottom : ℕ) (cursor : ℕ) (s : Scene) (at : Position) → Redrawable columns s → bottom ≡ cursor → at .row ≡ s .before .cursor-row → at .column ≡ s .before .cursor-column → Sent first first columns (s .before) (s .after) (pending-from bottom cursor 0) (at .row) (at .column)
+last-skipped first columns bottom cursor s at d e a b = sent-same first first columns (s .before) (s .after) all-pending (pending-from bottom cursor 0) (at .row) (at .column) (first-skipped bottom cursor (height s) e) (begun first columns s at d a b)
+
+pub last-sent : (first last : List ℕ) (capacity columns bottom cursor : ℕ) (s : Scene) (at : Position) (r : Option Position) → Redrawable columns s → bottom < height s → (bottom ≡ cursor → ⊥) → at .row ≡ s .before .cursor-row → at .column ≡ s .before .cursor-column → RowSays first last capacity columns bottom s at r → SentSays first last capacity columns (pending-from bottom cursor 0) s r
+last-sent first last capacity columns bottom cursor s at r d h n a b k = row-behind first first last capacity columns bottom all-pending (pending-from bottom cursor 0) s at r d h refl (first-row bottom cursor (height s) n) (begun first columns s at d a b) k
+
+pub last-touches : (bottom cursor t u k : ℕ) → (bottom ≡ cursor → ⊥) → u ≤ t + k → u ≤ t + visited bottom cursor 0 * k
+last-touches bottom cursor t u k n h = rw (visited-first bottom cursor n, one-mul k) h
