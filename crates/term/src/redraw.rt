@@ -5,7 +5,7 @@ ghost use mathlib.Core.List.{List, []};
 ghost use lib.ListN.{length, getD};
 ghost use Rattle.term.specs.Scene.{Redrawable};
 ghost use Rattle.term.specs.Says.{RowSays, UpperSays, SentSays};
-ghost use Rattle.terminals.specs.Progress.{pending-from, visited};
+ghost use Rattle.terminals.specs.Progress.{none-pending, pending-from, visited};
 use crate::change::Change;
 use crate::position::Position;
 use crate::row::ROW_EXTRA;
@@ -99,4 +99,27 @@ fn redraw_last<C: Change, W: ByteWriter>(
         return Some(at);
     }
     redraw_row(change, writer, at, last, old, new)
+}
+
+/// Sends every row that differs: the last one first, and the cursor's row last, so that the cursor is mostly right then.
+fn redraw_rows<C: Change, W: ByteWriter>(
+    change: &mut C,
+    writer: &mut W,
+    old: &mut [u8],
+    new: &mut [u8],
+) -> Option<Position>
+    requires ready { ⌜ ready (now change) ⌝ }
+    requires pictures { ⌜ Redrawable (length (now old)) (scene (now change)) ⌝ }
+    requires buffers { ⌜ length (now new) ≡ length (now old) ⌝ }
+    ensures says { λ r. ⌜ SentSays (written (now (writer .entry))) (written (now (writer .exit))) (lent (now (writer .entry)) .capacity) (length (now (old .entry))) none-pending (scene (now (change .entry))) r ⌝ }
+    ensures stays { λ _. ⌜ scene (now (change .exit)) ≡ scene (now (change .entry)) ⌝ }
+    ensures still_ready { λ _. ⌜ ready (now (change .exit)) ⌝ }
+    ensures touches { λ _. ⌜ touched (now (change .exit)) ≤ touched (now (change .entry)) + length (scene (now (change .entry)) .before .rows) * (2 * scene (now (change .entry)) .row-touches) ⌝ }
+    ensures same { λ _. ⌜ lent (now (writer .exit)) ≡ lent (now (writer .entry)) ⌝ }
+{
+    let last = change.rows() - 1;
+    let cursor = change.cursor_after();
+    let start = redraw_last(change, writer, last, cursor.row, old, new)?;
+    let at = redraw_upper(change, writer, start, last, cursor.row, old, new)?;
+    redraw_row(change, writer, at, cursor.row, old, new)
 }
