@@ -1,14 +1,15 @@
 //! From two pictures of a screen to bytes that lead every terminal from the one to the other.
 mod change;
+mod drawing;
 mod output;
 mod position;
-mod redraw;
 mod row;
 mod sequence;
 mod update;
 mod writer;
 
 pub use change::Change;
+pub use drawing::redraw;
 pub use output::Output;
 pub use output::OutputWriter;
 pub use position::Position;

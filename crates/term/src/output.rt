@@ -8,17 +8,12 @@ ghost use denote.Ref.{now as here};
 ghost use Rattle.term.specs.Lent.{Lent};
 use crate::writer::ByteWriter;
 
+/// Lent bytes, of which the first `used` were written.
 #[derive(Drop)]
 pub struct Output<'a> {
-    bytes: &'a mut [u8],
-    used: usize,
+    pub(crate) bytes: &'a mut [u8],
+    pub(crate) used: usize,
     ghost ok: { used ≤ length (here bytes) },
-}
-
-impl<'a> Output<'a> {
-    pub fn new(bytes: &'a mut [u8]) -> Output<'a> {
-        Output { bytes, used: 0 }
-    }
 }
 
 pub impl ByteWriter for Output<'_> as OutputWriter {

@@ -9,7 +9,7 @@ use Rattle.term.specs.Lent.{Lent}
 use Rattle.term.proofs.Scenes.{height}
 use Rattle.term.proofs.Upper.{row-says, still-redrawable}
 use Rattle.term.proofs.Sequels.{upper-says, cursor-sent, touches-of-last, touches-of-upper, touches-below, touches-of-all}
-use Rattle.term.proofs.redraw.redraw_rows.Needs as need
+use Rattle.term.proofs.drawing.redraw_rows.Needs as need
 
 pub sub-last : need.sub-last
 sub-last g c = omega (arith, c .rows-last .ensures, c .pre .pictures .after .row-within)

@@ -3,7 +3,7 @@ use mathlib.Core.List.{List}
 use Prim.Native.Nat.{ℕ, _+_, _*_, _≤_}
 use lib.ListN.{length}
 use Rattle.terminals.specs.Progress.{pending-from, visited, Sent}
-use Rattle.term.proofs.redraw.redraw_upper.Given as given
+use Rattle.term.proofs.drawing.redraw_upper.Given as given
 
 abbrev pub Inv-loop-row : given.InvT-loop-row
 Inv-loop-row g l =

@@ -10,8 +10,8 @@ use Rattle.term.specs.Scene.{Scene}
 use Rattle.term.specs.Lent.{Lent}
 use Rattle.term.proofs.Scenes.{height}
 use Rattle.term.proofs.Upper.{row-says, still-redrawable, upper-row, upper-skip, upper-refused, touches-row, touches-skip, touches-refused}
-use Rattle.term.proofs.redraw.redraw_upper.Needs as need
-use Rattle.term.proofs.redraw.redraw_upper.Needs.{then-row-cursor-row·in-Continue-at, else-row-cursor-row}
+use Rattle.term.proofs.drawing.redraw_upper.Needs as need
+use Rattle.term.proofs.drawing.redraw_upper.Needs.{then-row-cursor-row·in-Continue-at, else-row-cursor-row}
 
 pub loop-row-holds : need.loop-row-holds
 loop-row-holds g c = (λ start z. z, refl, c .pre .ready, omega arith, refl)

@@ -2,7 +2,7 @@ use borrow.Author.Needs.{needs}
 use mathlib.Core.Path.{refl}
 use native.Mathlib.Omega.{arith}
 use Rattle.term.proofs.Sequels.{last-skipped, last-sent, last-touches}
-use Rattle.term.proofs.redraw.redraw_last.Needs as need
+use Rattle.term.proofs.drawing.redraw_last.Needs as need
 
 pub returns-then-last-cursor-row : need.returns-then-last-cursor-row
 returns-then-last-cursor-row g c =

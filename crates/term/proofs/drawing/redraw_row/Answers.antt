@@ -7,7 +7,7 @@ use lib.ListN.{length}
 use Rattle.terminals.proofs.Sending.{row-stays}
 use Rattle.term.specs.Scene.{Scene}
 use Rattle.term.proofs.Scenes.{before-row, after-row, before-width, after-height, after-width, update-sent, update-refused}
-use Rattle.term.proofs.redraw.redraw_row.Needs as need
+use Rattle.term.proofs.drawing.redraw_row.Needs as need
 
 pub returns-then-unchanged : need.returns-then-unchanged
 returns-then-unchanged g c =

@@ -5,11 +5,15 @@ ghost use mathlib.Core.List.{List, []};
 ghost use lib.ListN.{length, getD};
 ghost use Rattle.term.specs.Scene.{Redrawable};
 ghost use Rattle.term.specs.Says.{RowSays, UpperSays, SentSays};
-ghost use Rattle.terminals.specs.Progress.{none-pending, pending-from, visited};
+ghost use Rattle.terminals.specs.Progress.{none-pending, pending-from, visited, RedrawSays};
 use crate::change::Change;
+use crate::output::Output;
+use crate::output::OutputWriter;
 use crate::position::Position;
 use crate::row::ROW_EXTRA;
 use crate::row::write_update;
+use crate::sequence::LONGEST_MOVE;
+use crate::sequence::move_cursor;
 use crate::update::shortest_update;
 use crate::writer::ByteWriter;
 
@@ -122,4 +126,33 @@ fn redraw_rows<C: Change, W: ByteWriter>(
     let start = redraw_last(change, writer, last, cursor.row, old, new)?;
     let at = redraw_upper(change, writer, start, last, cursor.row, old, new)?;
     redraw_row(change, writer, at, cursor.row, old, new)
+}
+
+/// Writes what leads every terminal from the one picture to the other to the front of `out`, and says how many bytes that is. None if
+/// `out` is shorter than the change may cost. `old` and `new` are room for a row each.
+pub fn redraw<C: Change>(
+    change: &mut C,
+    out: &mut [u8],
+    old: &mut [u8],
+    new: &mut [u8],
+) -> Option<usize>
+    requires ready { ⌜ ready (now change) ⌝ }
+    requires pictures { ⌜ Redrawable (length (now old)) (scene (now change)) ⌝ }
+    requires buffers { ⌜ length (now new) ≡ length (now old) ⌝ }
+    ensures says { λ r. ⌜ RedrawSays (scene (now (change .entry)) .before) (scene (now (change .entry)) .after) (length (now (old .entry))) (length (now (out .entry))) (now (out .exit)) r ⌝ }
+    ensures stays { λ _. ⌜ scene (now (change .exit)) ≡ scene (now (change .entry)) ⌝ }
+    ensures still_ready { λ _. ⌜ ready (now (change .exit)) ⌝ }
+    ensures touches { λ _. ⌜ touched (now (change .exit)) ≤ touched (now (change .entry)) + length (scene (now (change .entry)) .before .rows) * (2 * scene (now (change .entry)) .row-touches) ⌝ }
+{
+    let mut writer = Output {
+        bytes: out,
+        used: 0,
+    };
+    let at = redraw_rows(change, &mut writer, old, new)?;
+    if writer.left() < LONGEST_MOVE {
+        return None;
+    }
+    let cursor = change.cursor_after();
+    move_cursor(&mut writer, at, cursor);
+    Some(writer.count())
 }
