@@ -5,8 +5,10 @@ use Prim.Native.Nat.{ℕ, _+_, _<_}
 use lib.ListN.{length, getD}
 use Rattle.std.specs.declared.option.Option.{Option}
 use Rattle.std.specs.declared.option.Option.the-variants.{Some, None}
+use Rattle.spec.specs.Screen.{Picture}
 use Rattle.spec.specs.Promises.{cost}
 use Rattle.terminals.specs.Progress.{row-cost, RowSent, pending-from, Sent}
+use Rattle.terminals.specs.Painting.{from-row, PaintSent}
 use Rattle.term.specs.declared.position.Position.{Position}
 use Rattle.term.specs.Scene.{Scene}
 
@@ -25,3 +27,7 @@ UpperSays first last capacity columns bottom cursor s at None =
 abbrev pub SentSays : (first last : List ℕ) (capacity columns : ℕ) (pending : ℕ → Bool) → Scene → Option Position → Type 0
 SentSays first last capacity columns pending s (Some to) = Sent first last columns (s .before) (s .after) pending (to .row) (to .column)
 SentSays first last capacity columns pending s None = capacity < length first + cost columns (s .before) (s .after)
+
+-- What was sent for all rows, behind what leads to a cursor at home.
+abbrev pub PaintSays : (first last : List ℕ) (rows columns : ℕ) → Picture → Position → Type 0
+PaintSays first last rows columns after to = (start : List ℕ) → PaintSent start first rows columns after (from-row 0) 0 0 → PaintSent start last rows columns after (from-row rows) (to .row) (to .column)

@@ -2,6 +2,7 @@
 mod change;
 mod drawing;
 mod output;
+mod painting;
 mod position;
 mod row;
 mod sequence;
