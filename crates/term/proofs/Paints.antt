@@ -12,6 +12,8 @@ use Rattle.terminals.specs.Drawing.{Drawable, step-bytes, update-bytes}
 use Rattle.terminals.specs.Painting.{from-row, RowPainted, PaintSent}
 use Rattle.terminals.proofs.Rows.{row-width}
 use Rattle.terminals.proofs.Painting.{row-painted, paint-row, row-by-row}
+use Rattle.term.specs.declared.position.Position.{Position}
+use Rattle.term.specs.Says.{PaintSays}
 use Rattle.term.specs.Shortest.{ShortestWhole}
 
 pub row-length : (rows columns i : ℕ) (after : Picture) → Drawable rows columns after → i < rows → length (getD (after .rows) i []) ≡ columns
@@ -34,3 +36,10 @@ each-more i rows x y z k k′ h e a b = omega (arith, row-by-row i rows k h .0)
 
 pub room-left : (i rows x y k n : ℕ) → i < rows → y ≤ x + i * k → x + rows * k ≤ n → y + k ≤ n
 room-left i rows x y k n h a b = omega (arith, row-by-row i rows k h .1)
+
+-- the same of an equal height
+pub paint-says : (first last : List ℕ) (rows rows′ columns : ℕ) (after : Picture) (to : Position) → rows ≡ rows′ → PaintSays first last rows columns after to → PaintSays first last rows′ columns after to
+paint-says first last rows rows′ columns after to e h = subst (λ (n : ℕ). PaintSays first last n columns after to) e h
+
+pub long-says : (x y rows rows′ k : ℕ) → rows ≡ rows′ → y ≤ x + rows * k → y ≤ x + rows′ * k
+long-says x y rows rows′ k e h = subst (λ (n : ℕ). y ≤ x + n * k) e h

@@ -9,6 +9,7 @@ use lib.ListN.{length, getD}
 use Rattle.std.specs.declared.option.Option.{Option}
 use Rattle.std.specs.declared.option.Option.the-variants.{Some, None}
 use Rattle.std.proofs.shelf.Ways.{tells}
+use Rattle.terminals.specs.Drawing.{step-bytes}
 use Rattle.terminals.specs.Progress.{all-pending, none-pending, pending-from, visited, Sent}
 use Rattle.terminals.proofs.Mixed.{Without}
 use Rattle.terminals.proofs.Sending.{sent-none, sent-row, sent-same, row-refused}
@@ -44,6 +45,10 @@ pub cursor-sent : (first mid last : List ℕ) (capacity capacity′ columns bott
 cursor-sent first mid last capacity capacity′ columns bottom cursor s at r d h e f z k =
     subst (λ (x : ℕ). SentSays first last x columns none-pending s r) f
     (row-behind first mid last capacity columns cursor (pending-from bottom cursor bottom) none-pending s at r d (omega (arith, d .after .row-within)) (cursor-pending bottom cursor bottom) (subst (λ (n : ℕ). Without (pending-from bottom cursor bottom) none-pending cursor n) h (cursor-row bottom cursor)) z k)
+
+-- a step to an equal place
+pub step-to : (first last : List ℕ) (r c i i′ k k′ : ℕ) → last ≡ first ++ step-bytes r c i k → i ≡ i′ → k ≡ k′ → last ≡ first ++ step-bytes r c i′ k′
+step-to first last r c i i′ k k′ h a b = rw (← a, ← b) h
 
 -- touches
 visited-few : (bottom cursor : ℕ) → visited bottom cursor 0 ≤ 1

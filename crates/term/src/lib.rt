@@ -13,6 +13,7 @@ pub use change::Change;
 pub use drawing::redraw;
 pub use output::Output;
 pub use output::OutputWriter;
+pub use painting::repaint;
 pub use position::Position;
 pub use sequence::LONGEST_MOVE;
 pub use sequence::move_cursor;

@@ -49,3 +49,29 @@ fn repaint_rows<C: Change, W: ByteWriter>(
     }
     at
 }
+
+/// Writes what makes every terminal of the size show the picture to come, in whatever state it is, to the front of `out`, and says how
+/// many bytes that is. None if `out` is shorter than a screen may cost. `new` is room for a row.
+pub fn repaint<C: Change>(change: &mut C, out: &mut [u8], new: &mut [u8]) -> Option<usize>
+    requires ready { ⌜ ready (now change) ⌝ }
+    requires picture { ⌜ Drawable (length (scene (now change) .before .rows)) (length (now new)) (scene (now change) .after) ⌝ }
+    ensures says { λ r. ⌜ RepaintSays (length (scene (now (change .entry)) .before .rows)) (length (now (new .entry))) (scene (now (change .entry)) .after) (length (now (out .entry))) (now (out .exit)) r ⌝ }
+    ensures stays { λ _. ⌜ scene (now (change .exit)) ≡ scene (now (change .entry)) ⌝ }
+    ensures still_ready { λ _. ⌜ ready (now (change .exit)) ⌝ }
+    ensures touches { λ _. ⌜ touched (now (change .exit)) ≤ touched (now (change .entry)) + length (scene (now (change .entry)) .before .rows) * scene (now (change .entry)) .row-touches ⌝ }
+{
+    let rows = change.rows();
+    if out.len() < SCREEN_EXTRA + rows as usize * (ROW_EXTRA + new.len()) {
+        return None;
+    }
+    let mut writer = Output {
+        bytes: out,
+        used: 0,
+    };
+    writer.write_byte(CANCEL);
+    write_move(&mut writer, HOME);
+    let at = repaint_rows(change, &mut writer, rows, new);
+    let cursor = change.cursor_after();
+    move_cursor(&mut writer, at, cursor);
+    Some(writer.count())
+}

@@ -9,10 +9,8 @@ use Rattle.terminals.specs.Progress.{Drawn}
 use Rattle.terminals.proofs.Sending.{drawn, drawn-front}
 use Rattle.term.specs.Scene.{Scene}
 use Rattle.term.specs.Lent.{Lent}
+use Rattle.term.proofs.Sequels.{step-to}
 use Rattle.term.proofs.drawing.redraw.Needs as need
-
-step-to : (first last : List ℕ) (r c i i′ k k′ : ℕ) → last ≡ first ++ step-bytes r c i k → i ≡ i′ → k ≡ k′ → last ≡ first ++ step-bytes r c i′ k′
-step-to first last r c i i′ k k′ h a b = rw (← a, ← b) h
 
 pub returns : need.returns
 returns g c =
