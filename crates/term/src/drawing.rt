@@ -7,13 +7,13 @@ ghost use Rattle.term.specs.Scene.{Redrawable};
 ghost use Rattle.term.specs.Says.{RowSays, UpperSays, SentSays};
 ghost use Rattle.terminals.specs.Progress.{none-pending, pending-from, visited, RedrawSays};
 use crate::change::Change;
+use crate::cursor::place_cursor;
 use crate::output::Output;
 use crate::output::OutputWriter;
 use crate::position::Position;
 use crate::row::ROW_EXTRA;
 use crate::row::write_update;
 use crate::sequence::LONGEST_MOVE;
-use crate::sequence::move_cursor;
 use crate::update::shortest_update;
 use crate::writer::ByteWriter;
 
@@ -152,7 +152,6 @@ pub fn redraw<C: Change>(
     if writer.left() < LONGEST_MOVE {
         return None;
     }
-    let cursor = change.cursor_after();
-    move_cursor(&mut writer, at, cursor);
+    place_cursor(change, &mut writer, at);
     Some(writer.count())
 }

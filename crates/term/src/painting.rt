@@ -1,18 +1,20 @@
 //! A whole picture, for a terminal of which only the size is known.
 ghost use Prim.Native.Nat.{ℕ, _+_, _*_, _<_, _≤_};
 ghost use mathlib.Core.Path.{_≡_};
-ghost use mathlib.Core.List.{List, []};
+ghost use mathlib.Core.List.{List, [], _∷_, _++_};
 ghost use lib.ListN.{length, getD};
+ghost use Rattle.spec.specs.Bytes.{cancel-sequence};
+ghost use Rattle.terminals.specs.Sequences.{move-bytes};
 ghost use Rattle.terminals.specs.Drawing.{Drawable};
 ghost use Rattle.terminals.specs.Painting.{RepaintSays};
 ghost use Rattle.term.specs.Says.{PaintSays};
 use crate::change::Change;
+use crate::cursor::place_cursor;
 use crate::output::Output;
 use crate::output::OutputWriter;
 use crate::position::Position;
 use crate::row::ROW_EXTRA;
 use crate::row::write_update;
-use crate::sequence::move_cursor;
 use crate::sequence::write_move;
 use crate::update::whole_row;
 use crate::writer::ByteWriter;
@@ -24,6 +26,17 @@ const CANCEL: u8 = 24;
 const SCREEN_EXTRA: usize = 32;
 
 const HOME: Position = Position { row: 0, column: 0 };
+
+/// Ends a sequence that the terminal may be in, and sends the cursor home.
+fn begin_painting<W: ByteWriter>(writer: &mut W)
+    requires { ⌜ length (written (now writer)) + 13 ≤ lent (now writer) .capacity ⌝ }
+    ensures says { λ _. ⌜ written (now (writer .exit)) ≡ (written (now (writer .entry)) ++ (cancel-sequence ∷ [])) ++ move-bytes 0 0 ⌝ }
+    ensures long { λ _. ⌜ length (written (now (writer .exit))) ≤ length (written (now (writer .entry))) + 13 ⌝ }
+    ensures same { λ _. ⌜ lent (now (writer .exit)) ≡ lent (now (writer .entry)) ⌝ }
+{
+    writer.write_byte(CANCEL);
+    write_move(writer, HOME);
+}
 
 /// Sends every row, with the cursor at home, and says where the cursor is then.
 fn repaint_rows<C: Change, W: ByteWriter>(
@@ -68,10 +81,8 @@ pub fn repaint<C: Change>(change: &mut C, out: &mut [u8], new: &mut [u8]) -> Opt
         bytes: out,
         used: 0,
     };
-    writer.write_byte(CANCEL);
-    write_move(&mut writer, HOME);
+    begin_painting(&mut writer);
     let at = repaint_rows(change, &mut writer, rows, new);
-    let cursor = change.cursor_after();
-    move_cursor(&mut writer, at, cursor);
+    place_cursor(change, &mut writer, at);
     Some(writer.count())
 }

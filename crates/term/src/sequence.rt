@@ -15,6 +15,14 @@ const ESCAPE: u8 = 27;
 /// The longest move: two bytes, four digits, a semicolon, four digits and a byte.
 pub const LONGEST_MOVE: usize = 12;
 
+/// Rows and columns are counted from 0 here, and from 1 by a terminal.
+fn from_one(index: u16) -> u16
+    requires { ⌜ index < 9999 ⌝ }
+    ensures { λ r. ⌜ r ≡ index + 1 ⌝ }
+{
+    index + 1
+}
+
 /// `ESC [ row ; column H`. The terminal takes a number that is left out for 1.
 pub fn write_move<W: ByteWriter>(writer: &mut W, to: Position)
     requires small { ⌜ to .row < 9999 ⌝ ∗ ⌜ to .column < 9999 ⌝ }
@@ -26,11 +34,11 @@ pub fn write_move<W: ByteWriter>(writer: &mut W, to: Position)
     writer.write_byte(ESCAPE);
     writer.write_byte(b'[');
     if to.row > 0 {
-        write_number(writer, to.row + 1);
+        write_number(writer, from_one(to.row));
     }
     if to.column > 0 {
         writer.write_byte(b';');
-        write_number(writer, to.column + 1);
+        write_number(writer, from_one(to.column));
     }
     writer.write_byte(b'H');
 }

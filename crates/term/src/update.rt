@@ -31,15 +31,18 @@ fn first_difference(old: &[u8], new: &[u8]) -> usize
     old.len()
 }
 
-/// One past where two rows last differ.
-fn past_last_difference(old: &[u8], new: &[u8]) -> usize
-    requires { ⌜ length (now old) ≡ length (now new) ⌝ }
+/// One past where two rows last differ, which they do at `from`.
+fn past_last_difference(old: &[u8], new: &[u8], from: usize) -> usize
+    requires same_width { ⌜ length (now old) ≡ length (now new) ⌝ }
+    requires within { ⌜ from < length (now old) ⌝ }
+    requires differs { ⌜ (getD (now old) from 0 ≡ getD (now new) from 0 → ⊥) ⌝ }
+    ensures above { λ r. ⌜ from < r ⌝ }
     ensures within { λ r. ⌜ r ≤ length (now (old .entry)) ⌝ }
     ensures same { λ r. ⌜ drop r (now (old .entry)) ≡ drop r (now (new .entry)) ⌝ }
     ensures least { λ r. ⌜ ((k : ℕ) → drop k (now (old .entry)) ≡ drop k (now (new .entry)) → r ≤ k) ⌝ }
 {
     let mut end = old.len();
-    while end > 0 {
+    while end > from + 1 {
         if old[end - 1] != new[end - 1] {
             return end;
         }
@@ -75,7 +78,7 @@ pub fn shortest_update(old: &[u8], new: &[u8]) -> Option<Update>
     if from == old.len() {
         return None;
     }
-    let run_end = past_last_difference(old, new);
+    let run_end = past_last_difference(old, new, from);
     let clear_end = blank_from(new, from);
     if clear_end + CLEAR_LENGTH < run_end {
         Some(Update {
@@ -98,11 +101,11 @@ pub fn whole_row(new: &[u8]) -> Update
     ensures from { λ u. ⌜ u .from ≡ 0 ⌝ }
     ensures whole { λ u. ⌜ ShortestWhole (now (new .entry)) (u .to) (u .clear) ⌝ }
 {
-    let clear_end = blank_from(new, 0);
-    if clear_end + CLEAR_LENGTH < new.len() {
+    let blanks = blank_from(new, 0);
+    if blanks + CLEAR_LENGTH < new.len() {
         Update {
             from: 0,
-            to: clear_end,
+            to: blanks,
             clear: true,
         }
     } else {

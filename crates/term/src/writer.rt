@@ -1,5 +1,5 @@
 //! A writer of bytes, and what is written by it: runs, numbers, cursor moves and clears.
-ghost use Prim.Native.Nat.{ℕ, _+_, _<_, _≤_};
+ghost use Prim.Native.Nat.{ℕ, _+_, _%_, _<_, _≤_};
 ghost use mathlib.Core.Path.{_≡_};
 ghost use mathlib.Core.List.{List, [], _∷_, _++_};
 ghost use lib.ListN.{length};
@@ -41,6 +41,13 @@ pub fn write_bytes<W: ByteWriter>(writer: &mut W, bytes: &[u8])
     }
 }
 
+/// The last digit of a number.
+fn last_digit(n: u16) -> u8
+    ensures { λ r. ⌜ r ≡ n % 10 + 48 ⌝ }
+{
+    (n % 10) as u8 + b'0'
+}
+
 /// A number of at most four digits, in decimal.
 pub fn write_number<W: ByteWriter>(writer: &mut W, n: u16)
     requires { ⌜ n ≤ 9999 ⌝ ∗ ⌜ length (written (now writer)) + 4 ≤ lent (now writer) .capacity ⌝ }
@@ -52,13 +59,13 @@ pub fn write_number<W: ByteWriter>(writer: &mut W, n: u16)
     let hundreds = tens / 10;
     let thousands = hundreds / 10;
     if n >= 1000 {
-        writer.write_byte(thousands as u8 + b'0');
+        writer.write_byte(last_digit(thousands));
     }
     if n >= 100 {
-        writer.write_byte((hundreds % 10) as u8 + b'0');
+        writer.write_byte(last_digit(hundreds));
     }
     if n >= 10 {
-        writer.write_byte((tens % 10) as u8 + b'0');
+        writer.write_byte(last_digit(tens));
     }
-    writer.write_byte((n % 10) as u8 + b'0');
+    writer.write_byte(last_digit(n));
 }

@@ -48,27 +48,27 @@ digit-there low n d h = rw (le-leb low n h)
 pub digit-left-out : (low n d : ℕ) → n < low → digit-from low n d ≡ []
 digit-left-out low n d h = rw (lt-leb low n h)
 
-pub decimal-parts : (n : ℕ) → n ≤ 9999 → decimal n ≡ digit-from 1000 n (n / 10 / 10 / 10 + 48) ++ (digit-from 100 n (n / 10 / 10 % 10 + 48) ++ (digit-from 10 n (n / 10 % 10 + 48) ++ ((n % 10 + 48) ∷ [])))
+pub decimal-parts : (n : ℕ) → n ≤ 9999 → decimal n ≡ digit-from 1000 n (n / 10 / 10 / 10 % 10 + 48) ++ (digit-from 100 n (n / 10 / 10 % 10 + 48) ++ (digit-from 10 n (n / 10 % 10 + 48) ++ ((n % 10 + 48) ∷ [])))
 decimal-parts n h =
     ⊎-elim
-    (λ (a : n < 10). rw (digit-left-out 1000 n (n / 10 / 10 / 10 + 48) (omega arith), digit-left-out 100 n (n / 10 / 10 % 10 + 48) (omega arith), digit-left-out 10 n (n / 10 % 10 + 48) a) (decimal-one n a ∙ ap (λ (x : ℕ). x ∷ []) (omega arith)))
+    (λ (a : n < 10). rw (digit-left-out 1000 n (n / 10 / 10 / 10 % 10 + 48) (omega arith), digit-left-out 100 n (n / 10 / 10 % 10 + 48) (omega arith), digit-left-out 10 n (n / 10 % 10 + 48) a) (decimal-one n a ∙ ap (λ (x : ℕ). x ∷ []) (omega arith)))
     (λ (a : 10 ≤ n). ⊎-elim
     (λ (b : n < 100).
     let x : 48 + n / 10 ≡ n / 10 % 10 + 48 = omega arith in
     let y : 48 + n % 10 ≡ n % 10 + 48 = omega arith in
-    rw (digit-left-out 1000 n (n / 10 / 10 / 10 + 48) (omega arith), digit-left-out 100 n (n / 10 / 10 % 10 + 48) b, digit-there 10 n (n / 10 % 10 + 48) a, decimal-two n a b, x, y))
+    rw (digit-left-out 1000 n (n / 10 / 10 / 10 % 10 + 48) (omega arith), digit-left-out 100 n (n / 10 / 10 % 10 + 48) b, digit-there 10 n (n / 10 % 10 + 48) a, decimal-two n a b, x, y))
     (λ (b : 100 ≤ n). ⊎-elim
     (λ (c : n < 1000).
     let x : 48 + n / 10 / 10 ≡ n / 10 / 10 % 10 + 48 = omega arith in
     let y : 48 + n / 10 % 10 ≡ n / 10 % 10 + 48 = omega arith in
     let z : 48 + n % 10 ≡ n % 10 + 48 = omega arith in
-    rw (digit-left-out 1000 n (n / 10 / 10 / 10 + 48) c, digit-there 100 n (n / 10 / 10 % 10 + 48) b, digit-there 10 n (n / 10 % 10 + 48) a, decimal-three n b c, x, y, z))
+    rw (digit-left-out 1000 n (n / 10 / 10 / 10 % 10 + 48) c, digit-there 100 n (n / 10 / 10 % 10 + 48) b, digit-there 10 n (n / 10 % 10 + 48) a, decimal-three n b c, x, y, z))
     (λ (c : 1000 ≤ n).
-    let w : 48 + n / 10 / 10 / 10 ≡ n / 10 / 10 / 10 + 48 = omega arith in
+    let w : 48 + n / 10 / 10 / 10 ≡ n / 10 / 10 / 10 % 10 + 48 = omega arith in
     let x : 48 + n / 10 / 10 % 10 ≡ n / 10 / 10 % 10 + 48 = omega arith in
     let y : 48 + n / 10 % 10 ≡ n / 10 % 10 + 48 = omega arith in
     let z : 48 + n % 10 ≡ n % 10 + 48 = omega arith in
-    rw (digit-there 1000 n (n / 10 / 10 / 10 + 48) c, digit-there 100 n (n / 10 / 10 % 10 + 48) b, digit-there 10 n (n / 10 % 10 + 48) a, decimal-four n c (omega arith), w, x, y, z))
+    rw (digit-there 1000 n (n / 10 / 10 / 10 % 10 + 48) c, digit-there 100 n (n / 10 / 10 % 10 + 48) b, digit-there 10 n (n / 10 % 10 + 48) a, decimal-four n c (omega arith), w, x, y, z))
     (cases-lt n 1000))
     (cases-lt n 100))
     (cases-lt n 10)

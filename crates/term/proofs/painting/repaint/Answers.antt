@@ -23,15 +23,15 @@ returns g c =
     let columns : ℕ = length (c .args .new .now) in
     let e : c .rows-rows .result ≡ rows = c .rows-rows .ensures in
     let h = c .repaint-rows-at .ensures in
-    let row : c .cursor-after-cursor .result .row ≡ s .after .cursor-row = c .cursor-after-cursor .ensures .row ∙ ap (λ (x : Scene). x .after .cursor-row) (h .stays) in
-    let column : c .cursor-after-cursor .result .column ≡ s .after .cursor-column = c .cursor-after-cursor .ensures .column ∙ ap (λ (x : Scene). x .after .cursor-column) (h .stays) in
-    let begun : PaintSent [] (take (c .write-move .last .writer .used) (c .write-move .last .writer .bytes .now)) rows columns (s .after) (from-row 0) 0 0 = paint-begun [] _ rows columns (s .after) (c .pre .picture) (c .write-move .ensures .says ∙ ap (λ (x : List ℕ). x ++ move-bytes 0 0) (c .write-byte .ensures .says)) in
+    let row : _ ≡ s .after .cursor-row = ap (λ (x : Scene). x .after .cursor-row) (h .stays) in
+    let column : _ ≡ s .after .cursor-column = ap (λ (x : Scene). x .after .cursor-column) (h .stays) in
+    let begun : PaintSent [] (take (c .begin-painting .last .writer .used) (c .begin-painting .last .writer .bytes .now)) rows columns (s .after) (from-row 0) 0 0 = paint-begun [] _ rows columns (s .after) (c .pre .picture) (c .begin-painting .ensures .says) in
     let sent : PaintSent [] (take (c .repaint-rows-at .last .writer .used) (c .repaint-rows-at .last .writer .bytes .now)) rows columns (s .after) (from-row rows) (c .repaint-rows-at .result .row) (c .repaint-rows-at .result .column) = paint-says _ _ _ rows columns (s .after) (c .repaint-rows-at .result) e (h .says) [] begun in
     let long = long-says _ _ _ rows (16 + columns) e (h .long) in
-    let d : Painted [] (take (c .move-cursor .last .writer .used) (c .move-cursor .last .writer .bytes .now)) rows columns (s .after) =
-    painted [] _ _ rows columns (s .after) rows (c .repaint-rows-at .result .row) (c .repaint-rows-at .result .column) (c .pre .picture) (omega arith) sent (step-to _ _ (c .repaint-rows-at .result .row) (c .repaint-rows-at .result .column) _ _ _ _ (c .move-cursor .ensures .says) row column) in
+    let d : Painted [] (take (c .place-cursor .last .writer .used) (c .place-cursor .last .writer .bytes .now)) rows columns (s .after) =
+    painted [] _ _ rows columns (s .after) rows (c .repaint-rows-at .result .row) (c .repaint-rows-at .result .column) (c .pre .picture) (omega arith) sent (step-to _ _ (c .repaint-rows-at .result .row) (c .repaint-rows-at .result .column) _ _ _ _ (c .place-cursor .ensures .says) row column) in
     record {
-      says = painted-front _ (c .move-cursor .last .writer .bytes .now) (c .move-cursor .last .writer .used) _ _ _ _ _ (search needs) d (c .count .ensures) (ap (λ (x : Lent). x .capacity) (c .move-cursor .ensures .same ∙ h .same ∙ c .write-move .ensures .same ∙ c .write-byte .ensures .same)) (omega (arith, c .count .ensures, c .move-cursor .ensures .long, long, c .write-move .ensures .long, c .write-byte .ensures .long));
+      says = painted-front _ (c .place-cursor .last .writer .bytes .now) (c .place-cursor .last .writer .used) _ _ _ _ _ (search needs) d (c .count .ensures) (ap (λ (x : Lent). x .capacity) (c .place-cursor .ensures .same ∙ h .same ∙ c .begin-painting .ensures .same)) (omega (arith, c .count .ensures, c .place-cursor .ensures .long, long, c .begin-painting .ensures .long));
       stays = h .stays;
       still-ready = h .still-ready;
       touches = long-says _ _ _ rows (s .row-touches) e (h .touches);

@@ -27,12 +27,12 @@ pub returns : need.returns
 returns g c =
     let a : g .W·ByteWriter .written (c .if-to-gt0 .writer) ≡ g .W·ByteWriter .written (c .write-byte-2 .last .self) ++ row-number (c .args .to .row) =
     elim (c .if-to-gt0 .came) [
-      | then-to-gt0 w ↦ rw (row-there (c .args .to .row) (w .if-to-gt0 .taken)) (ap (g .W·ByteWriter .written) (w .writer-is) ∙ w .write-number .ensures .says)
+      | then-to-gt0 w ↦ rw (row-there (c .args .to .row) (w .if-to-gt0 .taken)) (ap (g .W·ByteWriter .written) (w .writer-is) ∙ w .write-number .ensures .says ∙ simp (w .from-one .ensures))
       | else-to-gt0 w ↦ rw (row-left-out (c .args .to .row) (w .if-to-gt0 .left)) (ap (g .W·ByteWriter .written) (w .writer-is) ∙ sym (append-nil _))
     ] in
     let b : g .W·ByteWriter .written (c .if-to-gt0-2 .writer) ≡ g .W·ByteWriter .written (c .if-to-gt0 .writer) ++ column-number (c .args .to .column) =
     elim (c .if-to-gt0-2 .came) [
-      | then-to-gt0-2 w ↦ rw (column-there (c .args .to .column) (w .if-to-gt0-2 .taken)) (ap (g .W·ByteWriter .written) (w .writer-is) ∙ w .write-number-then-to-gt0-2 .ensures .says ∙ simp (w .write-byte-then-to-gt0-2 .ensures .says, append-assoc))
+      | then-to-gt0-2 w ↦ rw (column-there (c .args .to .column) (w .if-to-gt0-2 .taken)) (ap (g .W·ByteWriter .written) (w .writer-is) ∙ w .write-number-then-to-gt0-2 .ensures .says ∙ simp (w .write-byte-then-to-gt0-2 .ensures .says, w .from-one-then-to-gt0-2 .ensures, append-assoc))
       | else-to-gt0-2 w ↦ rw (column-left-out (c .args .to .column) (w .if-to-gt0-2 .left)) (ap (g .W·ByteWriter .written) (w .writer-is) ∙ sym (append-nil _))
     ] in
     record { says = c .write-byte-3 .ensures .says ∙ simp (b, a, c .write-byte-2 .ensures .says, c .write-byte .ensures .says, append-assoc); long = search needs; same = search needs }
