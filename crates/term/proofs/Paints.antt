@@ -12,9 +12,9 @@ use Rattle.terminals.specs.Drawing.{Drawable, step-bytes, update-bytes}
 use Rattle.terminals.specs.Painting.{from-row, RowPainted, PaintSent}
 use Rattle.terminals.proofs.Rows.{row-width}
 use Rattle.terminals.proofs.Painting.{row-painted, paint-row, row-by-row}
-use Rattle.term.specs.declared.position.Position.{Position}
+use Rattle.term_rows.specs.declared.position.Position.{Position}
 use Rattle.term.specs.Says.{PaintSays}
-use Rattle.term.specs.Shortest.{ShortestWhole}
+use Rattle.term_rows.specs.Shortest.{ShortestWhole}
 
 pub row-length : (rows columns i : ℕ) (after : Picture) → Drawable rows columns after → i < rows → length (getD (after .rows) i []) ≡ columns
 row-length rows columns i after d h = row-width rows columns i (after .rows) (d .rectangle) h

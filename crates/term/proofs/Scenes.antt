@@ -14,7 +14,7 @@ use Rattle.terminals.proofs.Rows.{row-width}
 use Rattle.terminals.proofs.Sending.{row-stays, row-updated}
 use Rattle.terminals.proofs.Mixed.{differs-cost}
 use Rattle.term.specs.Scene.{Scene, Redrawable}
-use Rattle.term.specs.Shortest.{Shortest}
+use Rattle.term_rows.specs.Shortest.{Shortest}
 
 abbrev pub before-row : Scene → ℕ → Row
 before-row s i = getD (s .before .rows) i []

@@ -14,7 +14,7 @@ use Rattle.terminals.specs.Progress.{all-pending, none-pending, pending-from, v
 use Rattle.terminals.proofs.Mixed.{Without}
 use Rattle.terminals.proofs.Sending.{sent-none, sent-row, sent-same, row-refused}
 use Rattle.terminals.proofs.Orders.{first-row, first-skipped, cursor-pending, cursor-row, visited-first, visited-all}
-use Rattle.term.specs.declared.position.Position.{Position}
+use Rattle.term_rows.specs.declared.position.Position.{Position}
 use Rattle.term.specs.Scene.{Scene, Redrawable}
 use Rattle.term.specs.Says.{RowSays, UpperSays, SentSays}
 use Rattle.term.proofs.Scenes.{height, after-height}

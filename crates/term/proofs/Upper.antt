@@ -12,7 +12,7 @@ use Rattle.spec.specs.Promises.{cost}
 use Rattle.terminals.specs.Progress.{RowSent, row-cost, pending-from, visited, Sent}
 use Rattle.terminals.proofs.Sending.{sent-row, sent-same, row-refused}
 use Rattle.terminals.proofs.Orders.{next-pending, next-row, next-skipped, visited-next, visited-skipped, visited-below}
-use Rattle.term.specs.declared.position.Position.{Position}
+use Rattle.term_rows.specs.declared.position.Position.{Position}
 use Rattle.term.specs.Scene.{Scene, Redrawable}
 use Rattle.term.specs.Says.{RowSays}
 use Rattle.term.proofs.Scenes.{before-row, after-row, height}

@@ -1,4 +1,2 @@
-pub mod Lent
-pub mod Shortest
 pub mod Scene
 pub mod Says

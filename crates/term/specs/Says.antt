@@ -9,7 +9,7 @@ use Rattle.spec.specs.Screen.{Picture}
 use Rattle.spec.specs.Promises.{cost}
 use Rattle.terminals.specs.Progress.{row-cost, RowSent, pending-from, Sent}
 use Rattle.terminals.specs.Painting.{from-row, PaintSent}
-use Rattle.term.specs.declared.position.Position.{Position}
+use Rattle.term_rows.specs.declared.position.Position.{Position}
 use Rattle.term.specs.Scene.{Scene}
 
 abbrev pub RowSays : (first last : List ℕ) (capacity columns i : ℕ) → Scene → Position → Option Position → Type 0

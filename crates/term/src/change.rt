@@ -5,7 +5,7 @@ ghost use mathlib.Core.List.{List, []};
 ghost use lib.Dec.{T};
 ghost use lib.ListN.{length, getD};
 ghost use Rattle.term.specs.Scene.{Scene};
-use crate::position::Position;
+use term_rows::Position;
 
 /// Two pictures: what stands on the screen, and what shall. Rows are read mostly from the top; the
 /// last row comes before them, and the cursor's row behind them.

@@ -5,9 +5,9 @@ ghost use mathlib.Core.List.{List, _++_};
 ghost use lib.ListN.{length};
 ghost use Rattle.terminals.specs.Drawing.{step-bytes};
 use crate::change::Change;
-use crate::position::Position;
-use crate::sequence::move_cursor;
-use crate::writer::ByteWriter;
+use term_rows::ByteWriter;
+use term_rows::Position;
+use term_rows::move_cursor;
 
 /// Sends the cursor, which is at `at`, to where it shall be.
 pub fn place_cursor<C: Change, W: ByteWriter>(change: &C, writer: &mut W, at: Position)

@@ -8,14 +8,14 @@ ghost use Rattle.term.specs.Says.{RowSays, UpperSays, SentSays};
 ghost use Rattle.terminals.specs.Progress.{none-pending, pending-from, visited, RedrawSays};
 use crate::change::Change;
 use crate::cursor::place_cursor;
-use crate::output::Output;
-use crate::output::OutputWriter;
-use crate::position::Position;
-use crate::row::ROW_EXTRA;
-use crate::row::write_update;
-use crate::sequence::LONGEST_MOVE;
-use crate::update::shortest_update;
-use crate::writer::ByteWriter;
+use term_rows::ByteWriter;
+use term_rows::LONGEST_MOVE;
+use term_rows::Output;
+use term_rows::OutputWriter;
+use term_rows::Position;
+use term_rows::ROW_EXTRA;
+use term_rows::shortest_update;
+use term_rows::write_update;
 
 /// Sends what turns one row, with the cursor at `at`, and says where the cursor is then. None if there is too little room.
 fn redraw_row<C: Change, W: ByteWriter>(

@@ -2,15 +2,9 @@
 mod change;
 mod cursor;
 mod drawing;
-mod output;
 mod painting;
-mod position;
-mod row;
-mod sequence;
-mod update;
-mod writer;
 
 pub use change::Change;
 pub use drawing::redraw;
 pub use painting::repaint;
-pub use position::Position;
+pub use term_rows::Position;

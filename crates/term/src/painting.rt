@@ -10,14 +10,14 @@ ghost use Rattle.terminals.specs.Painting.{RepaintSays};
 ghost use Rattle.term.specs.Says.{PaintSays};
 use crate::change::Change;
 use crate::cursor::place_cursor;
-use crate::output::Output;
-use crate::output::OutputWriter;
-use crate::position::Position;
-use crate::row::ROW_EXTRA;
-use crate::row::write_update;
-use crate::sequence::write_move;
-use crate::update::whole_row;
-use crate::writer::ByteWriter;
+use term_rows::ByteWriter;
+use term_rows::Output;
+use term_rows::OutputWriter;
+use term_rows::Position;
+use term_rows::ROW_EXTRA;
+use term_rows::whole_row;
+use term_rows::write_move;
+use term_rows::write_update;
 
 /// Ends an escape sequence that the terminal may be in, and does nothing else.
 const CANCEL: u8 = 24;

@@ -8,7 +8,7 @@ use Rattle.terminals.specs.Drawing.{step-bytes}
 use Rattle.terminals.specs.Progress.{Drawn}
 use Rattle.terminals.proofs.Sending.{drawn, drawn-front}
 use Rattle.term.specs.Scene.{Scene}
-use Rattle.term.specs.Lent.{Lent}
+use Rattle.term_rows.specs.Lent.{Lent}
 use Rattle.term.proofs.Sequels.{step-to}
 use Rattle.term.proofs.drawing.redraw.Needs as need
 

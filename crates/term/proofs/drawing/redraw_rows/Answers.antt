@@ -5,7 +5,7 @@ use native.Mathlib.Omega.{arith}
 use lib.ListN.{length}
 use Rattle.std.specs.declared.option.Option.the-variants.{Some, None}
 use Rattle.term.specs.Scene.{Scene}
-use Rattle.term.specs.Lent.{Lent}
+use Rattle.term_rows.specs.Lent.{Lent}
 use Rattle.term.proofs.Scenes.{height}
 use Rattle.term.proofs.Upper.{row-says, still-redrawable}
 use Rattle.term.proofs.Sequels.{upper-says, cursor-sent, touches-of-last, touches-of-upper, touches-below, touches-of-all}

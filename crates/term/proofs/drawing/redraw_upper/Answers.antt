@@ -7,7 +7,7 @@ use lib.ListN.{length}
 use Rattle.std.specs.declared.option.Option.the-variants.{Some, None}
 use Rattle.terminals.specs.Progress.{visited}
 use Rattle.term.specs.Scene.{Scene}
-use Rattle.term.specs.Lent.{Lent}
+use Rattle.term_rows.specs.Lent.{Lent}
 use Rattle.term.proofs.Scenes.{height}
 use Rattle.term.proofs.Upper.{row-says, still-redrawable, upper-row, upper-skip, upper-refused, touches-row, touches-skip, touches-refused}
 use Rattle.term.proofs.drawing.redraw_upper.Needs as need

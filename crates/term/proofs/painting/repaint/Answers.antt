@@ -11,7 +11,7 @@ use Rattle.terminals.specs.Drawing.{Drawable, step-bytes}
 use Rattle.terminals.specs.Painting.{from-row, PaintSent, Painted}
 use Rattle.terminals.proofs.Painting.{paint-begun, painted, painted-front}
 use Rattle.term.specs.Scene.{Scene}
-use Rattle.term.specs.Lent.{Lent}
+use Rattle.term_rows.specs.Lent.{Lent}
 use Rattle.term.proofs.Sequels.{step-to}
 use Rattle.term.proofs.Paints.{paint-says, long-says}
 use Rattle.term.proofs.painting.repaint.Needs as need

@@ -5,7 +5,7 @@ use Prim.Native.Nat.{ℕ, _+_, _*_, _<_, _≤_}
 use native.Mathlib.Omega.{arith}
 use lib.ListN.{length, getD}
 use Rattle.term.specs.Scene.{Scene}
-use Rattle.term.specs.Lent.{Lent}
+use Rattle.term_rows.specs.Lent.{Lent}
 use Rattle.term.proofs.Paints.{row-length, paint-more, each-more, room-left}
 use Rattle.term.proofs.painting.repaint_rows.Needs as need
 
