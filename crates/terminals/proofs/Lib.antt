@@ -7,3 +7,4 @@ pub mod Orders
 pub mod Sending
 pub mod Painting
 pub mod Ends
+pub mod Pictures

@@ -7,8 +7,9 @@ use lib.Dec.{eqb}
 use lib.ListN.{length, take, drop, getD, set, replicate}
 use Rattle.std.specs.Orderings.{When}
 use Rattle.std.specs.shelf.Lists.{All}
-use Rattle.spec.specs.Screen.{Row, Picture, blank}
-use Rattle.spec.specs.Promises.{Draws}
+use Rattle.spec.specs.Editor.{Ed}
+use Rattle.spec.specs.Screen.{Row, Picture, blank, picture}
+use Rattle.spec.specs.Promises.{Draws, Sees}
 use Rattle.terminals.specs.Sequences.{Printable, move-bytes, clear-bytes, overwritten}
 
 abbrev pub showing : List Row → ℕ → ℕ → Picture
@@ -63,3 +64,7 @@ In-sequence = (p q r : Picture) (a b : List ℕ) → Draws p q a → Draws q r b
 -- Sending nothing is right exactly if the pictures are equal, cursors included.
 abbrev pub Nothing-to-send : Type 0
 Nothing-to-send = (p q : Picture) → (Draws p q [] → p ≡ q) × (p ≡ q → Draws p q [])
+
+-- What an editor's screen shows can be drawn, where the cursor is seen.
+abbrev pub Pictures-drawable : Type 0
+Pictures-drawable = (e : Ed) → Sees e → e .view .rows ≤ 9999 → e .view .columns ≤ 9999 → Drawable (e .view .rows) (e .view .columns) (picture e)

@@ -1,6 +1,6 @@
 //! What a terminal makes of what is sent to it: theorems on the definitions alone. The lemmas are in
 //! proofs/, and the code that sends is built on them.
-ghost use Rattle.terminals.specs.Drawing.{Moves, Runs, Clears, In-sequence, Nothing-to-send};
+ghost use Rattle.terminals.specs.Drawing.{Moves, Runs, Clears, In-sequence, Nothing-to-send, Pictures-drawable};
 
 /// A move leads to the same picture with the cursor elsewhere.
 pub fn moves() -> u8
@@ -33,6 +33,13 @@ pub fn in_sequence() -> u8
 /// Sending nothing is right exactly if the pictures are equal, cursors included.
 pub fn nothing_to_send() -> u8
     ensures { λ _. ⌜ Nothing-to-send ⌝ }
+{
+    0
+}
+
+/// What an editor's screen shows can be drawn.
+pub fn pictures_drawable() -> u8
+    ensures { λ _. ⌜ Pictures-drawable ⌝ }
 {
     0
 }
