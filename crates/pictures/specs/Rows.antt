@@ -1,8 +1,9 @@
 -- Cells one row behind the other.
 use mathlib.Core.Bool.{Bool, true, _&&_}
 use mathlib.Core.List.{List, [], _∷_}
-use Prim.Native.Nat.{ℕ, zero, suc}
-use lib.ListN.{take, drop}
+use mathlib.Core.Path.{_≡_}
+use Prim.Native.Nat.{ℕ, zero, suc, _*_, _<_, _≤_}
+use lib.ListN.{length, take, drop}
 use Rattle.spec.specs.Bytes.{is-printable}
 use Rattle.spec.specs.Screen.{Row, Picture}
 
@@ -17,3 +18,12 @@ picture-of rows columns cells r c = record { rows = rows-of rows columns cells; 
 abbrev pub all-printable : List ℕ → Bool
 all-printable [] = true
 all-printable (c ∷ cs) = is-printable c && all-printable cs
+
+-- cells that are a picture of a size, with the cursor within
+pub record Valid (rows columns : ℕ) (cells : List ℕ) (r c : ℕ) : Type 0 where
+  pub few-rows : rows ≤ 9999
+  pub few-columns : columns ≤ 9999
+  pub filled : length cells ≡ rows * columns
+  pub row-within : r < rows
+  pub column-within : c < columns
+  pub printable : all-printable cells ≡ true

@@ -1,95 +1,57 @@
-//! Two pictures of one size, checked when they are put together.
+//! Two pictures of one size, and what is sent for them.
 ghost use Prim.Native.Nat.{ℕ, _+_, _*_, _<_, _≤_};
 ghost use mathlib.Core.Path.{_≡_};
-ghost use mathlib.Core.Bool.{Bool, true};
 ghost use mathlib.Core.List.{List, []};
-ghost use lib.ListN.{length};
+ghost use lib.ListN.{length, take, drop};
 ghost use denote.Ref.{now as here};
-ghost use Rattle.std.specs.Options.{Cases as BySome};
+ghost use Rattle.std.specs.Vec.{made};
+ghost use Rattle.terminals.specs.Progress.{RedrawDone};
+ghost use Rattle.terminals.specs.Painting.{RepaintDone};
 ghost use Rattle.term.specs.Scene.{Scene};
-ghost use Rattle.pictures.specs.Rows.{picture-of, all-printable};
+ghost use Rattle.pictures.specs.Rows.{picture-of, Valid};
+use crate::shot::Fault;
+use crate::shot::Size;
+use crate::shot::Snapshot;
+use crate::shot::valid;
 use term::Change;
 use term::Position;
-
-/// A screen's cells, row by row, and its cursor.
-#[derive(Clone, Copy)]
-pub struct Snapshot<'a> {
-    pub cells: &'a [u8],
-    pub cursor: Position,
-}
+use term::redraw;
+use term::repaint;
 
 #[derive(Drop)]
-pub struct PicturePair<'a> {
-    rows: u16,
-    columns: u16,
-    before: &'a [u8],
-    after: &'a [u8],
-    start: Position,
-    end: Position,
-    ghost size: { (rows ≤ 9999) × (columns ≤ 9999) },
-    ghost before_filled: { length (here before) ≡ rows * columns },
-    ghost after_filled: { length (here after) ≡ rows * columns },
-    ghost printable: { all-printable (here after) ≡ true },
-    ghost within: { (end .row < rows) × (end .column < columns) },
+struct Pair<'a> {
+    size: Size,
+    before: Snapshot<'a>,
+    after: Snapshot<'a>,
 }
 
-/// Whether a terminal shows every byte as it is.
-fn printable(cells: &[u8]) -> bool
-    ensures { λ r. ⌜ r ≡ all-printable (now (cells .entry)) ⌝ }
+/// Row `row` of cells that stand in one piece.
+fn copy_row(cells: &[u8], columns: u16, row: u16, into: &mut [u8])
+    requires { ⌜ (row + 1) * columns ≤ length (now cells) ⌝ ∗ ⌜ length (now into) ≡ columns ⌝ }
+    ensures { λ _. ⌜ now (into .exit) ≡ take columns (drop (row * columns) (now (cells .entry))) ⌝ }
 {
-    for c in cells {
-        if *c < b' ' || *c > b'~' {
-            return false;
-        }
-    }
-    true
+    let from = row as usize * columns as usize;
+    let to = from + columns as usize;
+    into.copy_from_slice(&cells[from..to]);
 }
 
-impl<'a> PicturePair<'a> {
-    /// None if a picture has not so many cells, or the one to come has cells that can't be shown or its cursor outside.
-    pub fn new(
-        rows: u16,
-        columns: u16,
-        before: Snapshot<'a>,
-        after: Snapshot<'a>,
-    ) -> Option<PicturePair<'a>> {
-        let cells = rows as usize * columns as usize;
-        let sized = rows <= 9999
-            && columns <= 9999
-            && before.cells.len() == cells
-            && after.cells.len() == cells;
-        let seen = after.cursor.row < rows && after.cursor.column < columns;
-        if !sized || !seen || !printable(after.cells) {
-            return None;
-        }
-        Some(PicturePair {
-            rows,
-            columns,
-            before: before.cells,
-            after: after.cells,
-            start: before.cursor,
-            end: after.cursor,
-        })
-    }
-}
-
-pub impl Change for PicturePair<'_> as PairChange {
-    ghost scene = { λ s. record { before = picture-of (s .rows) (s .columns) (here (s .before)) (s .start .row) (s .start .column); after = picture-of (s .rows) (s .columns) (here (s .after)) (s .end .row) (s .end .column); row-touches = 0; kept = [] } };
+impl Change for Pair<'_> as PairChange {
+    ghost scene = { λ s. record { before = picture-of (s .size .rows) (s .size .columns) (here (s .before .cells)) (s .before .cursor .row) (s .before .cursor .column); after = picture-of (s .size .rows) (s .size .columns) (here (s .after .cells)) (s .after .cursor .row) (s .after .cursor .column); row-touches = 0; kept = [] } };
 
     ghost touched = { λ _. 0 };
 
-    ghost ready = { λ _. Unit {0} };
+    ghost ready = { λ s. Valid (s .size .rows) (s .size .columns) (here (s .before .cells)) (s .before .cursor .row) (s .before .cursor .column) × Valid (s .size .rows) (s .size .columns) (here (s .after .cells)) (s .after .cursor .row) (s .after .cursor .column) };
 
     fn rows(&self) -> u16 {
-        self.rows
+        self.size.rows
     }
 
     fn cursor_before(&self) -> Position {
-        self.start
+        self.before.cursor
     }
 
     fn cursor_after(&self) -> Position {
-        self.end
+        self.after.cursor
     }
 
     fn unchanged(&self, row: u16) -> bool {
@@ -98,16 +60,57 @@ pub impl Change for PicturePair<'_> as PairChange {
     }
 
     fn read_before(&mut self, row: u16, into: &mut [u8]) {
-        let cells = self.before;
-        let from = row as usize * self.columns as usize;
-        let to = from + self.columns as usize;
-        into.copy_from_slice(&cells[from..to]);
+        copy_row(self.before.cells, self.size.columns, row, into);
     }
 
     fn read_after(&mut self, row: u16, into: &mut [u8]) {
-        let cells = self.after;
-        let from = row as usize * self.columns as usize;
-        let to = from + self.columns as usize;
-        into.copy_from_slice(&cells[from..to]);
+        copy_row(self.after.cells, self.size.columns, row, into);
+    }
+}
+
+/// What leads a terminal from one picture to another, at the front of `out`. `old` and `new` are room for a row each.
+pub fn draw<'a>(
+    size: Size,
+    before: Snapshot<'a>,
+    after: Snapshot<'a>,
+    old: &mut [u8],
+    new: &mut [u8],
+    out: &mut [u8],
+) -> Result<usize, Fault>
+    ensures { λ r. ⌜ made r (λ n. RedrawDone (picture-of (size .rows) (size .columns) (now (before .entry .cells)) (before .entry .cursor .row) (before .entry .cursor .column)) (picture-of (size .rows) (size .columns) (now (after .entry .cells)) (after .entry .cursor .row) (after .entry .cursor .column)) (size .columns) (length (now (out .entry))) (now (out .exit)) n) ⌝ }
+{
+    let columns = size.columns as usize;
+    if old.len() != columns || new.len() != columns {
+        return Err(Fault::NoPicture);
+    }
+    if !valid(size, before) || !valid(size, after) {
+        return Err(Fault::NoPicture);
+    }
+    let mut pair = Pair {
+        size,
+        before,
+        after,
+    };
+    match redraw(&mut pair, out, old, new) {
+        Some(n) => Ok(n),
+        None => Err(Fault::NoRoom),
+    }
+}
+
+/// What makes a terminal show a picture, at the front of `out`. `new` is room for a row.
+pub fn paint(size: Size, after: Snapshot, new: &mut [u8], out: &mut [u8]) -> Result<usize, Fault>
+    ensures { λ r. ⌜ made r (λ n. RepaintDone (size .rows) (size .columns) (picture-of (size .rows) (size .columns) (now (after .entry .cells)) (after .entry .cursor .row) (after .entry .cursor .column)) (length (now (out .entry))) (now (out .exit)) n) ⌝ }
+{
+    if new.len() != size.columns as usize || !valid(size, after) {
+        return Err(Fault::NoPicture);
+    }
+    let mut pair = Pair {
+        size,
+        before: after,
+        after,
+    };
+    match repaint(&mut pair, out, new) {
+        Some(n) => Ok(n),
+        None => Err(Fault::NoRoom),
     }
 }
