@@ -8,7 +8,7 @@ use lib.ListN.{length, getD}
 use Rattle.std.proofs.shelf.Elements.{all-getD}
 use Rattle.spec.specs.Screen.{Row, Picture}
 use Rattle.terminals.specs.Sequences.{Printable}
-use Rattle.terminals.specs.Drawing.{step-bytes, update-bytes, Updates}
+use Rattle.terminals.specs.Drawing.{Rectangle, Drawable, step-bytes, update-bytes, Updates}
 use Rattle.terminals.specs.Progress.{RowSent, row-cost}
 use Rattle.terminals.proofs.Rows.{row-width}
 use Rattle.terminals.proofs.Sending.{row-stays, row-updated}
@@ -51,3 +51,9 @@ pub update-refused : (capacity n columns i a b : ℕ) (clear : Bool) (s : Scene)
 update-refused capacity n columns i a b clear s old new d h p q u l =
     let e : length new ≡ columns = ap length q ∙ after-width columns i s d h in
     rw (differs-cost columns (before-row s i) (after-row s i) (differ s i a b clear old new p q u)) (omega arith)
+
+-- two pictures that can be drawn on one screen
+pub redrawable-pictures : (rows columns k : ℕ) (kept : List ℕ) (p q : Picture) → Drawable rows columns p → Drawable rows columns q → Redrawable columns (record { before = p; after = q; row-touches = k; kept = kept })
+redrawable-pictures rows columns k kept p q a b =
+    let e : rows ≡ length (p .rows) = sym (a .rectangle .height) in
+    record { before = subst (λ (n : ℕ). Rectangle n columns (p .rows)) e (a .rectangle); after = subst (λ (n : ℕ). Drawable n columns q) e b }
