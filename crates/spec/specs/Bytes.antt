@@ -12,22 +12,30 @@ ascii s = getD (codes s) 0 0
 
 abbrev pub backspace : ℕ
 backspace = 8
+
 abbrev pub tab : ℕ
 tab = 9
+
 -- the line end
 abbrev pub newline : ℕ
 newline = 10
+
 abbrev pub return : ℕ
 return = 13
+
 abbrev pub control-r : ℕ
 control-r = 18
+
 -- CAN, which ends an escape sequence and does nothing else
 abbrev pub cancel-sequence : ℕ
 cancel-sequence = 24
+
 abbrev pub escape : ℕ
 escape = 27
+
 abbrev pub space : ℕ
 space = 32
+
 abbrev pub rubout : ℕ
 rubout = 127
 

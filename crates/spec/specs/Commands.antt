@@ -33,6 +33,7 @@ delete-lines e r = at-nonblank (lines-cut (r .from) (r .to))
     lines-cut a b =
         cond (ltb b (length (e .text))) (edit e a (suc b) [] a)
         (cond (ltb 0 a) (edit e (a - 1) b [] (a - 1)) (edit e a b [] a))
+
     at-nonblank : Ed → Ed
     at-nonblank f = with-cursor f (first-nonblank (f .text) (min (f .cursor) (length (f .text))))
 
@@ -114,6 +115,7 @@ put-lines-below e n = at (line-end (e .text) (e .cursor))
   where
     first-at : ℕ → Ed → Ed
     first-at a f = finish (with-cursor f (first-nonblank (f .text) a))
+
     at : ℕ → Ed
     at b = first-at (suc b) (edit e b b (copies n (newline ∷ e .register .bytes)) (e .cursor))
 
@@ -122,6 +124,7 @@ put-lines-above e n = at (line-start (e .text) (e .cursor))
   where
     first-at : ℕ → Ed → Ed
     first-at a f = finish (with-cursor f (first-nonblank (f .text) a))
+
     at : ℕ → Ed
     at a = first-at a (edit e a a (copies n (e .register .bytes ++ (newline ∷ []))) (e .cursor))
 

@@ -146,8 +146,10 @@ words-on operated t a n = cond operated (behind-operator (times n (next-word t) 
   where
     alone : ℕ → Option Target
     alone b = cond (eqb b a) none (target b exclusive)
+
     cut-short : ℕ → Bool
     cut-short b = ltb (line-of t a) (line-of t b) && (eqb n 1 && ltb a (line-end t a))
+
     behind-operator : ℕ → Option Target
     behind-operator b = cond (eqb b a) none (target (cond (cut-short b) (line-end t a) b) exclusive)
 
@@ -218,8 +220,10 @@ region t a g = by (g .extent)
   where
     low : ℕ
     low = min a (g .place)
+
     high : ℕ
     high = max a (g .place)
+
     by : Extent → Region
     by exclusive = record { from = low; to = high; linewise = false }
     by inclusive = record { from = low; to = min (suc high) (line-end t high); linewise = false }
