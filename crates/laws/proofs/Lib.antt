@@ -1,0 +1,4 @@
+-- Lemmas on the definitions.
+pub mod TextLines
+pub mod Standing
+pub mod Sight
