@@ -1,4 +1,5 @@
 -- Lemmas on the definitions.
 pub mod TextLines
 pub mod Standing
+pub mod TextMotions
 pub mod Sight
