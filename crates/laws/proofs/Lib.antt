@@ -2,4 +2,5 @@
 pub mod TextLines
 pub mod Standing
 pub mod TextMotions
+pub mod Targets
 pub mod Sight
