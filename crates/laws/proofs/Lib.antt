@@ -3,4 +3,6 @@ pub mod TextLines
 pub mod Standing
 pub mod TextMotions
 pub mod Targets
+pub mod Edits
+pub mod Cursors
 pub mod Sight
