@@ -10,9 +10,10 @@ use lib.Dec.{eqb}
 use Rattle.std.proofs.shelf.Tests.{cond-both, and-parts, eqb-true}
 use Rattle.std.proofs.shelf.Lists.{getD-append-left}
 use Rattle.spec.specs.Bytes.{newline}
-use Rattle.spec.specs.Text.{Text, byte, part, replaced}
+use Rattle.spec.specs.Text.{Text, byte, part, replaced, is-in-line}
 use Rattle.spec.specs.Editor.{Ed, Change}
 use Rattle.spec.specs.History.{edit, recorded, finish, finish-in-column, cancel}
+use Rattle.laws.proofs.Standing.{Stands-at, byte-stands}
 
 -- Replacing.
 
@@ -44,6 +45,11 @@ pub edit-byte : (e : Ed) (a b : ℕ) (new : Text) (to i : ℕ) → a ≤ length 
 unfolding edit
 edit-byte e a b new to i h l =
     cond-both (eqb (length (part (e .text) a b)) 0 && eqb (length new) 0) _ _ (λ (f : Ed). byte (f .text) (a + i) ≡ byte new i) (λ q. absurd (omega (arith, eqb-true (length new) 0 (and-parts (eqb (length (part (e .text) a b)) 0) (eqb (length new) 0) q .1)))) (λ _. replaced-byte (e .text) a b new i h l)
+
+-- The cursor may stand on a new byte that is no line end.
+pub edit-stands : (e : Ed) (a b : ℕ) (new : Text) (i to : ℕ) → a ≤ length (e .text) → i < length new → to ≡ a + i → is-in-line (byte new i) ≡ true → Stands-at (edit e a b new to .text) (edit e a b new to .cursor)
+edit-stands e a b new i to h l q w =
+    rw (edit-cursor e a b new to) (byte-stands (edit e a b new to .text) to (ap (λ n. is-in-line (byte (edit e a b new to .text) n)) q ∙ ap is-in-line (edit-byte e a b new to i h l) ∙ w))
 
 -- The end of a command.
 

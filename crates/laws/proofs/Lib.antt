@@ -5,4 +5,5 @@ pub mod TextMotions
 pub mod Targets
 pub mod Edits
 pub mod Cursors
+pub mod CursorKeys
 pub mod Sight

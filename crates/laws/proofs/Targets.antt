@@ -91,7 +91,6 @@ to-line-leads : (o : Bool) (t : Text) (a l : ℕ) → Stands-at t a → Each (Le
 unfolding to-line
 to-line-leads o t a l h = stands-leads o t a _ linewise h (first-nonblank-stands t _ (nth-line-within t _))
 
-
 -- back: at most one
 found-by-leads : (o : Bool) (back c : ℕ) (t : Text) (a n : ℕ) → back ≤ 1 → Stands-at t a → Each (Leads o t a) (found-by back c t a n)
 unfolding found-by
