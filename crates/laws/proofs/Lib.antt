@@ -6,4 +6,5 @@ pub mod Targets
 pub mod Edits
 pub mod Cursors
 pub mod CursorKeys
+pub mod Outcomes
 pub mod Sight
