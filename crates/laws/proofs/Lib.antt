@@ -7,4 +7,5 @@ pub mod Edits
 pub mod Cursors
 pub mod CursorKeys
 pub mod Outcomes
+pub mod Repeats
 pub mod Sight
