@@ -8,4 +8,6 @@ pub mod Cursors
 pub mod CursorKeys
 pub mod Outcomes
 pub mod Repeats
+pub mod Cannot
+pub mod Harmless
 pub mod Sight
