@@ -11,3 +11,4 @@ pub mod Repeats
 pub mod Cannot
 pub mod Harmless
 pub mod Sight
+pub mod Witnesses

@@ -4,15 +4,17 @@ use mathlib.Core.Bool.{Bool, true, false, _&&_, _||_, not, cond}
 use mathlib.Core.List.{List, [], _∷_, _++_}
 use mathlib.Core.Option.{Option, some, none}
 use Prim.Native.Nat.{ℕ, _+_, _≤_}
+use lib.Chars.{codes}
 use lib.ListN.{length}
 use lib.Dec.{eqb, ltb, leb}
 use Rattle.spec.specs.Bytes.{ascii, escape, is-typeable}
-use Rattle.spec.specs.Text.{line-end}
+use Rattle.spec.specs.Text.{line-end, last-in-line}
 use Rattle.spec.specs.Motions.{Motion, to-line-start, to-line-or-first, find, till, Target, Region, or-one, motion-target, region, lines-region}
 use Rattle.spec.specs.Keys.{Operator, delete, yank, change, same-operator, Argument, byte-to-find, byte-to-stop-before, byte-to-write, second-g, Action, delete-chars, join-lines, put-after, put-before, insert-before, insert-after, insert-at-first-nonblank, insert-at-line-end, insert-line-below, insert-line-above, go-back, go-forth, Key, digit, motion, operator, awaiter, action, repeat, no-command, key-of, Prefix, counting, operating, Pending, ready, awaiting, longer-count, has-count, total-count, is-operating}
-use Rattle.spec.specs.Editor.{Ed, with-command, with-view, no-command-yet}
+use Rattle.spec.specs.Editor.{Ed, with-command, with-view, no-command-yet, initial}
 use Rattle.spec.specs.Dispatch.{key}
 use Rattle.spec.specs.Promises.{Reachable}
+use Rattle.spec.specs.Worked.{after, example}
 
 -- What is pending behind a key that only goes on with a command: a digit of a count, an operator's key where none is pending, a key that waits for a byte.
 abbrev pub continued : Prefix → Key → Option Pending
@@ -137,3 +139,34 @@ pub record Harmless (e : Ed) : Type 0 where
 
 abbrev pub Pending-is-harmless : Type 0
 Pending-is-harmless = (e : Ed) → Reachable e → e .inserting ≡ false → Harmless e
+
+-- Editors to which these theorems apply with something to say: the example on three rows and twelve columns after keys.
+abbrev pub small-after : List ℕ → Ed
+small-after ks = after (initial example 3 12) ks
+
+-- x on a line's last byte: the cursor goes to the one that is the last then
+pub record Stands-witness (e : Ed) : Type 0 where
+  pub reachable : Reachable e
+  pub outside : e .inserting ≡ false
+  pub cursor : e .cursor ≡ 17
+  pub last : last-in-line (e .text) 17 ≡ 17
+
+-- a place that is seen only because the view moved both down and to the right
+pub record Sees-witness (e : Ed) : Type 0 where
+  pub reachable : Reachable e
+  pub top : e .view .top ≡ 2
+  pub left : e .view .left ≡ 6
+
+-- an operator with a count before and one behind it: f goes on with it; k can't be done in the first line, w can
+pub record Pending-witness (e : Ed) : Type 0 where
+  pub reachable : Reachable e
+  pub outside : e .inserting ≡ false
+  pub pending : e .command .pending ≡ ready (operating delete 2 3)
+  pub goes-on : goes-on-with (e .command .pending) (ascii "f") ≡ some (awaiting byte-to-find (operating delete 2 3))
+  pub cannot : can-not e (ascii "k") ≡ true
+  pub can : can-not e (ascii "w") ≡ false
+
+pub record Cursor-witnesses : Type 0 where
+  pub stands : Stands-witness (small-after (codes "$x"))
+  pub sees : Sees-witness (small-after (codes "jjj$"))
+  pub pending : Pending-witness (small-after (codes "2d3"))
