@@ -1,5 +1,6 @@
 -- Lemmas on the definitions.
 pub mod TextLines
+pub mod TextCounts
 pub mod Standing
 pub mod TextMotions
 pub mod Targets
