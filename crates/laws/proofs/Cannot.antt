@@ -1,16 +1,16 @@
 -- A command that can't be done is cancelled. Each lemma tells it from the editor as it was before its last key was noted.
-use mathlib.Core.Path.{_≡_, refl, sym, ap, _∙_}
+use mathlib.Core.Path.{_≡_, refl, sym, _∙_}
 use mathlib.Core.Bool.{Bool, true, false, _&&_, _||_, not, cond}
-use mathlib.Core.Logic.{_⊎_, inl, inr, ⊎-elim}
+use mathlib.Core.Logic.{⊎-elim}
 use mathlib.Core.Option.{Option, some, none}
 use Prim.Native.Nat.{ℕ, _+_}
 use lib.ListN.{length}
 use lib.Dec.{eqb, leb, ltb}
-use Rattle.std.proofs.shelf.Tests.{true≢false, false≢true, cases-bool, and-parts, or-cases, not-true, cond-true, cond-false}
+use Rattle.std.proofs.shelf.Tests.{true≢false, and-parts, or-cases, not-true, cond-true, cond-false}
 use Rattle.spec.specs.Bytes.{ascii, escape, is-typeable}
 use Rattle.spec.specs.Text.{line-end}
 use Rattle.spec.specs.Motions.{Motion, to-line-start, to-line-or-first, find, till, Target, Region, or-one, motion-target, region, lines-region}
-use Rattle.spec.specs.Keys.{Operator, delete, yank, change, same-operator, Argument, byte-to-find, byte-to-stop-before, byte-to-write, second-g, Action, delete-chars, join-lines, put-after, put-before, insert-before, insert-after, insert-at-first-nonblank, insert-at-line-end, insert-line-below, insert-line-above, go-back, go-forth, Key, digit, motion, operator, awaiter, action, repeat, no-command, key-of, Prefix, counting, operating, Pending, ready, awaiting, has-count, total-count, is-operating}
+use Rattle.spec.specs.Keys.{Operator, delete, yank, change, same-operator, Argument, byte-to-find, byte-to-stop-before, byte-to-write, second-g, Action, delete-chars, join-lines, put-after, put-before, insert-before, insert-after, insert-at-first-nonblank, insert-at-line-end, insert-line-below, insert-line-above, go-back, go-forth, Key, digit, motion, operator, awaiter, action, repeat, no-command, key-of, Prefix, counting, operating, Pending, ready, awaiting, has-count, total-count}
 use Rattle.spec.specs.Editor.{Ed, OpenCommand, with-command, with-pending}
 use Rattle.spec.specs.History.{cancel}
 use Rattle.spec.specs.Commands.{delete-region, yank-region, operate, run-motion, operate-lines, delete-chars-by, write-over, join-by, put-bytes, put-after-by, put-before-by, undo-by, redo-by, run-action}

@@ -1,20 +1,20 @@
 -- Every key leaves the cursor where it may stand, and so the cursor always stands.
-use mathlib.Core.Path.{_≡_, refl, sym, ap, subst, _∙_}
-use mathlib.Core.Bool.{Bool, true, false, _&&_, not, cond}
-use mathlib.Core.List.{List, [], _∷_, _++_}
-use Prim.Native.Nat.{ℕ, zero, suc, _≤_}
+use mathlib.Core.Path.{_≡_}
+use mathlib.Core.Bool.{true, false, _&&_, not}
+use mathlib.Core.List.{List, [], _∷_}
+use Prim.Native.Nat.{ℕ}
 use native.Mathlib.Omega.{arith}
 use lib.ListN.{length}
 use lib.Dec.{eqb}
 use Rattle.std.proofs.shelf.Tests.{cond-both, and-parts, not-true}
 use Rattle.spec.specs.Bytes.{ascii, escape}
 use Rattle.spec.specs.Text.{Text, line-start, skip-back}
-use Rattle.spec.specs.Motions.{to-line-start, to-line-or-first, find, till, times, or-one}
+use Rattle.spec.specs.Motions.{to-line-start, to-line-or-first, find, till, or-one}
 use Rattle.spec.specs.Keys.{Operator, same-operator, Argument, byte-to-find, byte-to-stop-before, byte-to-write, second-g, Key, digit, motion, operator, awaiter, action, repeat, no-command, key-of, Prefix, counting, operating, Pending, ready, awaiting, has-count, total-count}
 use Rattle.spec.specs.Editor.{Ed, with-pending, initial}
 use Rattle.spec.specs.History.{cancel}
-use Rattle.spec.specs.Dispatch.{argument-key, digit-key, operator-key, awaiter-key, command-key, normal-key, noted, typed-key, replay, repeat-last, repeats, pending-count, scrolled, key}
-use Rattle.spec.specs.Promises.{Reachable, first, next, Stands, Always-stands}
+use Rattle.spec.specs.Dispatch.{argument-key, digit-key, operator-key, awaiter-key, command-key, normal-key, noted, typed-key, replay, repeat-last, repeats, scrolled, key}
+use Rattle.spec.specs.Promises.{first, next, Stands, Always-stands}
 use Rattle.laws.proofs.Standing.{line-start-stands}
 use Rattle.laws.proofs.TextMotions.{times-keeps}
 use Rattle.laws.proofs.Cursors.{Rests, rests-stands, stands-rests, cancel-stands, run-motion-stands, operate-lines-stands, write-over-stands, or-one-positive, run-action-stands, insert-key-stands}

@@ -1,17 +1,17 @@
 -- Every command leaves the cursor where it may stand.
 use mathlib.Core.Path.{_≡_, refl, sym, ap, subst, subst₂, _∙_}
-use mathlib.Core.Bool.{Bool, true, false, _&&_, _||_, cond}
+use mathlib.Core.Bool.{true, false, _&&_, _||_}
 use mathlib.Core.List.{List, [], _∷_, _++_}
 use mathlib.Core.Option.{Option, some, none}
-use Prim.Native.Nat.{ℕ, zero, suc, _+_, _-_, _≤_, _<_, min, max}
+use Prim.Native.Nat.{ℕ, zero, suc, _+_, _-_, _≤_, max}
 use native.Mathlib.Omega.{arith}
 use lib.ListN.{length, replicate, length-append, length-replicate, getD-replicate}
 use lib.Dec.{eqb, leb, ltb}
 use Rattle.std.proofs.shelf.Tests.{cond-both, true≢false, and-parts, eqb-true, eqb-false}
 use Rattle.std.proofs.shelf.Ways.{tells}
 use Rattle.spec.specs.Bytes.{newline, space, tab, return, backspace, rubout, escape, is-typeable}
-use Rattle.spec.specs.Text.{Text, byte, is-in-line, copies, line-end, line-start, column, last-in-line, first-nonblank}
-use Rattle.spec.specs.Motions.{Motion, Target, Region, times, or-one, keeps-column, motion-target, lines-region}
+use Rattle.spec.specs.Text.{Text, is-in-line, copies, line-end, line-start, column}
+use Rattle.spec.specs.Motions.{Motion, Target, Region, or-one, keeps-column, motion-target, lines-region}
 use Rattle.spec.specs.Keys.{Operator, delete, yank, change, Action, delete-chars, join-lines, put-after, put-before, insert-before, insert-after, insert-at-first-nonblank, insert-at-line-end, insert-line-below, insert-line-above, go-back, go-forth, Prefix, counting, operating, total-count}
 use Rattle.spec.specs.Editor.{Ed, UndoUnit, with-cursor}
 use Rattle.spec.specs.History.{edit, finish, finish-in-column, cancel, undo-once, redo-once}

@@ -1,10 +1,10 @@
 -- What an edit makes of the text and the cursor, and what the end of a command leaves.
-use mathlib.Core.Path.{_≡_, refl, sym, ap, subst, _∙_}
-use mathlib.Core.Bool.{Bool, true, false, _&&_, cond}
+use mathlib.Core.Path.{_≡_, refl, sym, ap, _∙_}
+use mathlib.Core.Bool.{true, false, _&&_}
 use mathlib.Core.List.{List, [], _∷_, _++_}
-use Prim.Native.Nat.{ℕ, zero, suc, _+_, _-_, _≤_, _<_, min}
+use Prim.Native.Nat.{ℕ, _+_, _≤_, _<_}
 use native.Mathlib.Omega.{arith}
-use lib.ListN.{length, take, drop, getD, length-append, length-take}
+use lib.ListN.{length, take, drop, length-append}
 use lib.Seq.{length-take-le, getD-append-add}
 use lib.Dec.{eqb}
 use Rattle.std.proofs.shelf.Tests.{cond-both, and-parts, eqb-true}
@@ -12,7 +12,7 @@ use Rattle.std.proofs.shelf.Lists.{getD-append-left}
 use Rattle.spec.specs.Bytes.{newline}
 use Rattle.spec.specs.Text.{Text, byte, part, replaced, is-in-line}
 use Rattle.spec.specs.Editor.{Ed, Change}
-use Rattle.spec.specs.History.{edit, recorded, finish, finish-in-column, cancel}
+use Rattle.spec.specs.History.{edit, recorded, finish}
 use Rattle.laws.proofs.Standing.{Stands-at, byte-stands}
 
 -- Replacing.

@@ -1,28 +1,27 @@
 -- A pending command, or one that can't be done, leaves all but itself as it is.
 use mathlib.Core.Path.{_≡_, refl, sym, ap, subst, _∙_}
-use mathlib.Core.Bool.{Bool, true, false, _&&_, not, cond}
-use mathlib.Core.List.{List, [], _∷_, _++_}
-use mathlib.Core.Logic.{_⊎_, inl, inr, ⊎-elim}
+use mathlib.Core.Bool.{Bool, true, false, _&&_, not}
+use mathlib.Core.List.{[]}
+use mathlib.Core.Logic.{inl, inr, ⊎-elim}
 use mathlib.Core.Option.{Option, some, none}
 use Prim.Native.Nat.{ℕ, _+_, _-_, _≤_, _<_}
 use native.Mathlib.Omega.{arith}
-use lib.ListN.{length}
 use lib.Dec.{eqb}
 use Rattle.std.proofs.shelf.Lists.{nil-from-length}
 use Rattle.std.proofs.shelf.Tests.{true≢false, cases-bool, and-parts, eqb-true, cond-true, cond-false}
 use Rattle.std.proofs.shelf.Ways.{tells}
 use Rattle.spec.specs.Bytes.{ascii, escape}
 use Rattle.spec.specs.Text.{column, line-of}
-use Rattle.spec.specs.Motions.{times, or-one}
-use Rattle.spec.specs.Keys.{key-of, Prefix, counting, operating, Pending, ready, awaiting}
-use Rattle.spec.specs.Editor.{Ed, OpenCommand, View, with-command, with-pending, with-view, no-command-yet}
+use Rattle.spec.specs.Motions.{or-one}
+use Rattle.spec.specs.Keys.{key-of, counting, operating, Pending, ready, awaiting}
+use Rattle.spec.specs.Editor.{Ed, OpenCommand, with-command, with-pending, no-command-yet}
 use Rattle.spec.specs.History.{cancel}
 use Rattle.spec.specs.Dispatch.{normal-key, noted, typed-key, replay, repeat-last, repeats, pending-count, follow, scrolled, key}
 use Rattle.spec.specs.Promises.{Reachable, Sees}
-use Rattle.spec.specs.Laws.{continued, goes-on-with, cannot-command, can-not, Only-command, Goes-on, Is-over, Harmless, Pending-is-harmless}
+use Rattle.spec.specs.Laws.{goes-on-with, cannot-command, can-not, Only-command, Goes-on, Is-over, Pending-is-harmless}
 use Rattle.laws.proofs.TextMotions.{times-keeps}
-use Rattle.laws.proofs.Outcomes.{Settles, Outcome, Ended, Inserts, inserts, cancel-ends, normal-key-outcome}
-use Rattle.laws.proofs.Repeats.{Consistent, reachable-consistent, At-rest, cancel-is, typed-outside, repeat-last-at-rest}
+use Rattle.laws.proofs.Outcomes.{Outcome, inserts, cancel-ends, normal-key-outcome}
+use Rattle.laws.proofs.Repeats.{reachable-consistent, cancel-is, typed-outside, repeat-last-at-rest}
 use Rattle.laws.proofs.Cannot.{can-not-cancels, cannot-escape}
 use Rattle.laws.proofs.Sight.{in-sight}
 

@@ -1,18 +1,18 @@
 -- How a command stands after a key: it goes on, inserting begins, or it is over.
-use mathlib.Core.Path.{_≡_, refl, sym, ap, subst, subst₂, _∙_}
+use mathlib.Core.Path.{_≡_, refl, sym, _∙_}
 use mathlib.Core.Bool.{Bool, true, false, _&&_, _||_, not, cond}
-use mathlib.Core.List.{List, [], _∷_, _++_}
+use mathlib.Core.List.{List, [], _∷_}
 use mathlib.Core.Logic.{_⊎_, inl, inr}
 use mathlib.Core.Option.{Option, some, none}
-use Prim.Native.Nat.{ℕ, suc, _+_, _-_, min, max}
-use lib.ListN.{length, replicate}
+use Prim.Native.Nat.{ℕ, suc, _+_, _-_, max}
+use lib.ListN.{length}
 use lib.Dec.{eqb, leb, ltb}
 use Rattle.std.proofs.shelf.Tests.{cond-both, true≢false}
-use Rattle.spec.specs.Bytes.{ascii, newline, space, tab, return, backspace, rubout, escape, is-typeable}
-use Rattle.spec.specs.Text.{Text, line-end, line-start, column, copies}
+use Rattle.spec.specs.Bytes.{ascii, newline, tab, return, backspace, rubout, escape, is-typeable}
+use Rattle.spec.specs.Text.{Text, line-end}
 use Rattle.spec.specs.Motions.{Motion, to-line-start, to-line-or-first, find, till, Target, Region, or-one, keeps-column, motion-target, region, lines-region}
-use Rattle.spec.specs.Keys.{Operator, delete, yank, change, same-operator, Argument, byte-to-find, byte-to-stop-before, byte-to-write, second-g, Action, delete-chars, join-lines, put-after, put-before, insert-before, insert-after, insert-at-first-nonblank, insert-at-line-end, insert-line-below, insert-line-above, go-back, go-forth, Key, digit, motion, operator, awaiter, action, repeat, no-command, key-of, Prefix, counting, operating, Pending, ready, awaiting, longer-count, has-count, total-count, is-operating}
-use Rattle.spec.specs.Editor.{Ed, Change, UndoUnit, with-cursor, with-inserting, with-changes, with-command, with-pending, no-command-yet}
+use Rattle.spec.specs.Keys.{Operator, delete, yank, change, same-operator, Argument, byte-to-find, byte-to-stop-before, byte-to-write, second-g, Action, delete-chars, join-lines, put-after, put-before, insert-before, insert-after, insert-at-first-nonblank, insert-at-line-end, insert-line-below, insert-line-above, go-back, go-forth, Key, digit, motion, operator, awaiter, action, repeat, no-command, key-of, Prefix, counting, operating, Pending, ready, awaiting, longer-count, has-count, total-count}
+use Rattle.spec.specs.Editor.{Ed, Change, UndoUnit, with-cursor, with-pending, no-command-yet}
 use Rattle.spec.specs.History.{edit, recorded, finish, finish-in-column, cancel, undo-once, redo-once}
 use Rattle.spec.specs.Commands.{clamp-cursor, start-insert, yanked, delete-lines, delete-bytes, delete-region, yank-region, change-region, operate, move-to, run-motion, operate-lines, delete-chars-by, write-over, join-once, join-by, put-lines-below, put-lines-above, put-bytes, put-after-by, put-before-by, insert-at, insert-line, undo-by, redo-by, run-action, type-byte, erase-byte, leave-insert, insert-key}
 use Rattle.spec.specs.Dispatch.{argument-key, digit-key, operator-key, awaiter-key, command-key, normal-key}

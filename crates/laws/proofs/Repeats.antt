@@ -1,27 +1,27 @@
 -- The keys that `.` types again are those of a whole command, so that nothing is pending behind them.
 use mathlib.Core.Path.{_≡_, refl, sym, ap, subst, subst₂, _∙_}
-use mathlib.Core.Bool.{Bool, true, false, _&&_, not, cond}
+use mathlib.Core.Bool.{Bool, true, false}
 use mathlib.Core.List.{List, [], _∷_, _++_}
 use mathlib.Core.Logic.{_⊎_, inl, inr, ⊎-elim}
 use mathlib.Core.Option.{Option, some, none}
-use Prim.Native.Nat.{ℕ, suc, _+_}
+use Prim.Native.Nat.{ℕ}
 use native.Mathlib.Omega.{arith}
 use lib.ListN.{length, length-append}
 use lib.Dec.{eqb}
 use Rattle.std.proofs.shelf.Lists.{append-assoc}
-use Rattle.std.proofs.shelf.Tests.{cond-both, true≢false, false≢true, cases-bool, eq-eqb, ne-eqb, cond-true, cond-false}
+use Rattle.std.proofs.shelf.Tests.{cond-both, true≢false, cases-bool, eq-eqb, ne-eqb, cond-true, cond-false}
 use Rattle.spec.specs.Bytes.{escape}
 use Rattle.spec.specs.Text.{Text}
-use Rattle.spec.specs.Motions.{times, or-one}
+use Rattle.spec.specs.Motions.{or-one}
 use Rattle.spec.specs.Keys.{Pending, no-prefix}
 use Rattle.spec.specs.Editor.{Ed, Change, OpenCommand, with-inserting, with-changes, with-command, with-pending, no-command-yet, initial}
 use Rattle.spec.specs.History.{recorded, finish, finish-in-column, cancel}
 use Rattle.spec.specs.Commands.{insert-key}
-use Rattle.spec.specs.Dispatch.{normal-key, noted, typed-key, replay, repeat-last, repeats, pending-count, scrolled, key}
+use Rattle.spec.specs.Dispatch.{normal-key, noted, typed-key, replay, repeat-last, repeats, scrolled, key}
 use Rattle.spec.specs.Promises.{Reachable, first, next}
 use Rattle.spec.specs.Laws.{goes-on-with}
 use Rattle.laws.proofs.TextMotions.{times-keeps}
-use Rattle.laws.proofs.Outcomes.{Works, Ended, Inserts, Settles, Outcome, inserts, cancel-ends, normal-key-outcome, insert-key-inserts, insert-key-ends}
+use Rattle.laws.proofs.Outcomes.{Ended, Inserts, Settles, Outcome, inserts, cancel-ends, normal-key-outcome, insert-key-inserts, insert-key-ends}
 use Rattle.laws.proofs.CursorKeys.{repeats-outside}
 
 -- what is typed while inserting, as far as escape

@@ -1,12 +1,11 @@
 -- The screen follows the cursor.
-use mathlib.Core.Path.{_≡_, refl}
 use Prim.Native.Nat.{ℕ, _+_, _-_, _≤_, _<_}
 use native.Mathlib.Omega.{arith}
 use Rattle.std.proofs.shelf.Ways.{tells}
 use Rattle.spec.specs.Text.{column, line-of, line-start, skip-back, newlines}
 use Rattle.spec.specs.Editor.{Ed, initial}
 use Rattle.spec.specs.Dispatch.{follow, scrolled, key}
-use Rattle.spec.specs.Promises.{Reachable, first, next, Sees, In-sight}
+use Rattle.spec.specs.Promises.{first, next, Sees, In-sight}
 
 -- from its beginning on, many are seen, one of them a
 pub follow-from : (a begin many : ℕ) → 1 ≤ many → follow a begin many ≤ a

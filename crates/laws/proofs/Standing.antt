@@ -1,16 +1,12 @@
 -- Places at which the cursor may stand outside of inserting.
-use mathlib.Core.Path.{_≡_, refl, sym, ap, subst, _∙_}
-use mathlib.Core.Bool.{Bool, true, false, not, cond}
-use mathlib.Core.List.{List, [], _∷_, _++_}
-use mathlib.Core.Logic.{_⊎_, inl, inr, ⊎-elim}
-use Prim.Native.Nat.{ℕ, zero, suc, _+_, _-_, _≤_, _<_, min}
+use mathlib.Core.Path.{_≡_}
+use mathlib.Core.Bool.{true}
+use Prim.Native.Nat.{ℕ, _+_, _≤_, _<_, min}
 use native.Mathlib.Omega.{arith}
 use lib.ListN.{length}
-use Rattle.std.proofs.shelf.Tests.{cases-lt, true≢false}
-use Rattle.std.proofs.shelf.Lists.{getD-past}
-use Rattle.spec.specs.Bytes.{newline, is-newline, is-blank}
-use Rattle.spec.specs.Text.{Text, byte, skip-forward, is-in-line, line-end, line-start, last-in-line, nth-line, at-column, first-nonblank, clamp}
-use Rattle.laws.proofs.TextLines.{line-start-down, line-end-up, line-end-within, last-in-line-within-line, last-in-line-from, last-in-line-to, last-in-line-last, skip-forward-up, in-text, before-line-end}
+use Rattle.spec.specs.Bytes.{is-blank}
+use Rattle.spec.specs.Text.{Text, byte, skip-forward, is-in-line, line-end, line-start, last-in-line, at-column, first-nonblank, clamp}
+use Rattle.laws.proofs.TextLines.{line-start-down, line-end-within, last-in-line-within-line, last-in-line-from, last-in-line-to, last-in-line-last, skip-forward-up, in-text, before-line-end}
 
 -- a place on a byte that is no line end, or in an empty line
 pub record Stands-at (t : Text) (a : ℕ) : Type 0 where

@@ -1,18 +1,19 @@
 -- Where each motion leads from a place at which the cursor may stand, and which bytes an operator then takes.
-use mathlib.Core.Path.{_≡_, refl, sym, subst}
-use mathlib.Core.Bool.{Bool, true, false, _&&_, not, cond}
-use mathlib.Core.Logic.{_⊎_, ⊎-elim}
+use mathlib.Core.Path.{_≡_, refl, sym}
+use mathlib.Core.Bool.{Bool, true, false}
+use mathlib.Core.Logic.{⊎-elim}
 use mathlib.Core.Option.{Option, some, none}
-use Prim.Native.Nat.{ℕ, zero, suc, _+_, _-_, _≤_, _<_, min, max}
+use Prim.Native.Nat.{ℕ, suc, _+_, _-_, _≤_, _<_, min, max}
 use native.Mathlib.Omega.{arith}
 use lib.ListN.{length}
 use lib.Dec.{eqb, ltb, leb}
 use Rattle.std.proofs.shelf.Tests.{cond-both, cases-lt, leb-false, false≢true}
-use Rattle.spec.specs.Text.{Text, line-end, line-start, column, line-of, line-count, nth-line, last-in-line, at-column, first-nonblank, clamp}
-use Rattle.spec.specs.Motions.{Motion, char-left, char-right, line-down, line-up, to-line-start, to-first-nonblank, to-line-end, to-next-word, to-previous-word, to-word-end, to-line-or-last, to-line-or-first, find, till, Extent, exclusive, inclusive, linewise, Target, times, or-one, next-word, previous-word, word-end, find-in-line, left-by, right-by, in-line, down-by, up-by, line-end-by, words-on, words-back, word-ends-on, to-line, found-by, motion-target, Region, region, lines-region}
-use Rattle.laws.proofs.TextLines.{line-start-down, line-end-up, line-end-within, last-in-line-to, nth-line-within}
+use Rattle.spec.specs.Text.{Text, line-end, line-start, column, line-of, line-count, nth-line, last-in-line, clamp}
+use Rattle.spec.specs.Motions.{Motion, char-left, char-right, line-down, line-up, to-line-start, to-first-nonblank, to-line-end, to-next-word, to-previous-word, to-word-end, to-line-or-last, to-line-or-first, find, till, Extent, exclusive, inclusive, linewise, Target, times, or-one, next-word, previous-word, find-in-line, left-by, right-by, in-line, down-by, up-by, line-end-by, words-on, words-back, word-ends-on, to-line, found-by, motion-target, Region, region, lines-region}
+use Rattle.laws.proofs.TextLines.{line-start-down, line-end-up, line-end-within, nth-line-within}
+use Rattle.laws.proofs.TextCounts.{nth-line-line-of, nth-line-up}
 use Rattle.laws.proofs.Standing.{Stands-at, in-line-stands, line-start-stands, last-in-line-stands, at-column-stands, first-nonblank-stands, clamp-stands, before-line-end-stands}
-use Rattle.laws.proofs.TextMotions.{times-keeps, Each, each-map, Between, next-word-up, next-word-within, previous-word-stands, find-in-line-between}
+use Rattle.laws.proofs.TextMotions.{times-keeps, Each, Between, next-word-up, next-word-within, previous-word-stands, find-in-line-between}
 
 -- operated: whether the motion stands behind an operator
 pub record Leads (operated : Bool) (t : Text) (a : ℕ) (g : Target) : Type 0 where
@@ -122,15 +123,17 @@ motion-leads o t a col n (till c) h = found-by-leads o 1 c t a (or-one n) (omega
 pub record Takes (t : Text) (r : Region) : Type 0 where
   pub from-within : r .from ≤ length t
   pub to-within : r .to ≤ length t
+  pub ordered : r .from ≤ r .to
   pub from-stands : r .linewise ≡ false → Stands-at t (r .from)
 
 region-of-extent : (o : Bool) (t : Text) (a b : ℕ) (x : Extent) → a ≤ length t → Leads o t a (record { place = b; extent = x }) → Takes t (region t a (record { place = b; extent = x }))
 unfolding region
-region-of-extent o t a b exclusive h k = record { from-within = k .lower .within; to-within = omega arith; from-stands = λ _. k .lower }
+region-of-extent o t a b exclusive h k =
+    record { from-within = k .lower .within; to-within = omega arith; ordered = omega arith; from-stands = λ _. k .lower }
 region-of-extent o t a b inclusive h k =
-    record { from-within = k .lower .within; to-within = omega (arith, line-end-within t (max a b) (omega arith)); from-stands = λ _. k .lower }
+    record { from-within = k .lower .within; to-within = omega (arith, line-end-within t (max a b) (omega arith)); ordered = omega (arith, line-end-up t (max a b)); from-stands = λ _. k .lower }
 region-of-extent o t a b linewise h k =
-    record { from-within = omega (arith, line-start-down t (min a b)); to-within = line-end-within t (max a b) (omega arith); from-stands = λ e. absurd (false≢true (sym e)) }
+    record { from-within = omega (arith, line-start-down t (min a b)); to-within = line-end-within t (max a b) (omega arith); ordered = omega (arith, line-start-down t (min a b), line-end-up t (max a b)); from-stands = λ e. absurd (false≢true (sym e)) }
 
 pub region-takes : (o : Bool) (t : Text) (a : ℕ) (g : Target) → a ≤ length t → Leads o t a g → Takes t (region t a g)
 region-takes o t a g h k = region-of-extent o t a (g .place) (g .extent) h k
@@ -138,4 +141,4 @@ region-takes o t a g h k = region-of-extent o t a (g .place) (g .extent) h k
 pub lines-region-takes : (t : Text) (a n : ℕ) → a ≤ length t → Each (Takes t) (lines-region t a n)
 unfolding lines-region
 lines-region-takes t a n h =
-    cond-both (leb (line-of t a + n) (line-count t)) _ none (Each (Takes t)) (λ _. record { from-within = omega (arith, line-start-down t a); to-within = line-end-within t _ (nth-line-within t _); from-stands = λ e. absurd (false≢true (sym e)) }) (λ _. tt)
+    cond-both (leb (line-of t a + n) (line-count t)) _ none (Each (Takes t)) (λ _. record { from-within = omega (arith, line-start-down t a); to-within = line-end-within t _ (nth-line-within t _); ordered = omega (arith, nth-line-line-of t a h, nth-line-up t (line-of t a) (line-of t a + (n - 1)) (omega arith), line-end-up t (nth-line t (line-of t a + (n - 1)))); from-stands = λ e. absurd (false≢true (sym e)) }) (λ _. tt)

@@ -1,19 +1,19 @@
 -- Lines counted: which line a place is in, where line n begins, and that each undoes the other.
-use mathlib.Core.Path.{_≡_, refl, sym, ap, subst, _∙_}
-use mathlib.Core.Bool.{Bool, true, false, not, cond}
-use mathlib.Core.List.{List, [], _∷_, _++_}
-use mathlib.Core.Logic.{_⊎_, inl, inr, ⊎-elim}
+use mathlib.Core.Path.{_≡_, sym, ap, _∙_}
+use mathlib.Core.Bool.{true, false, cond}
+use mathlib.Core.List.{[], _∷_, _++_}
+use mathlib.Core.Logic.{⊎-elim}
 use Prim.Native.Nat.{ℕ, zero, suc, _+_, _-_, _≤_, _<_, min}
 use native.Mathlib.Omega.{arith}
 use lib.ListN.{length, take}
-use lib.Seq.{take-suc, take-length}
+use lib.Seq.{take-suc}
 use lib.Dec.{ltb}
 use Rattle.std.proofs.shelf.Lists.{take-all, take-append-drop}
 use Rattle.std.proofs.shelf.Tests.{cond-both, cases-lt, cond-true, cond-false, ltb-true, ltb-false, not-true, not-false}
 use Rattle.std.specs.shelf.Lists.{drop}
 use Rattle.spec.specs.Bytes.{newline, is-newline}
-use Rattle.spec.specs.Text.{Text, byte, is-in-line, line-end, line-start, newlines, line-of, line-count, lines-below, nth-line, skip-back, skip-forward}
-use Rattle.laws.proofs.TextLines.{Pass, in-text, line-passes, line-start-down, line-end-up, line-end-within, at-line-end, before-line-start, line-start-within-line, nth-line-within, nth-line-start}
+use Rattle.spec.specs.Text.{Text, byte, is-in-line, line-end, line-start, newlines, line-of, line-count, lines-below, nth-line}
+use Rattle.laws.proofs.TextLines.{Pass, in-text, line-passes, line-start-down, line-end-up, at-line-end, before-line-start, line-start-within-line, nth-line-within, nth-line-start}
 
 pub newlines-append : (s t : Text) → newlines (s ++ t) ≡ newlines s + newlines t
 unfolding newlines

@@ -1,18 +1,17 @@
 -- Lines of a text: where skipping over bytes leads, where a line begins and ends, and that all places of a line agree on that.
-use mathlib.Core.Path.{_≡_, refl, sym, ap, subst, _∙_}
-use mathlib.Core.Bool.{Bool, true, false, not, cond}
-use mathlib.Core.List.{List, [], _∷_, _++_}
-use mathlib.Core.Logic.{_⊎_, inl, inr, ⊎-elim}
-use Prim.Native.Nat.{ℕ, zero, suc, _+_, _-_, _≤_, _<_, min, max}
-use native.Mathlib.Nat.{add-zero, add-suc, suc-add, le-antisymm}
+use mathlib.Core.Path.{_≡_, refl, sym, ap, _∙_}
+use mathlib.Core.Bool.{Bool, true, false}
+use mathlib.Core.List.{[], _∷_}
+use mathlib.Core.Logic.{⊎-elim}
+use Prim.Native.Nat.{ℕ, zero, suc, _+_, _-_, _≤_, _<_, max}
 use native.Mathlib.Omega.{arith}
-use lib.ListN.{length, take, drop, getD, length-drop}
+use lib.ListN.{length, drop, length-drop}
 use lib.Dec.{ltb}
 use lib.Seq.{drop-cons, getD-drop}
 use Rattle.std.proofs.shelf.Tests.{cond-both, cases-lt, cond-true, cond-false, ltb-true, true≢false}
-use Rattle.std.proofs.shelf.Lists.{getD-past, drop-all}
+use Rattle.std.proofs.shelf.Lists.{getD-past}
 use Rattle.std.proofs.shelf.Ways.{tells}
-use Rattle.spec.specs.Bytes.{newline, is-newline}
+use Rattle.spec.specs.Bytes.{newline}
 use Rattle.spec.specs.Text.{Text, byte, span, skip-forward, skip-back, is-in-line, line-end, line-start, last-in-line, lines-below, nth-line}
 
 -- Skipping.
@@ -93,6 +92,20 @@ skip-back-same f t a zero l p = let s : a ≡ 0 = omega arith in ap (skip-back f
 skip-back-same f t a (suc b) l p =
     ⊎-elim (λ (k : a < suc b). skip-back-same f t a b (omega arith) (λ i m n. p i m (omega arith)) ∙ sym (cond-true (f (byte t b)) (skip-back f t b) (suc b) (p b (omega arith) (omega arith)))) (λ (k : suc b ≤ a). let s : a ≡ suc b = omega arith in ap (skip-back f t) s) (cases-lt a (suc b))
 
+-- The place to which each leads is the only one of its kind.
+pub skip-forward-is : (f : ℕ → Bool) (t : Text) (a b : ℕ) → a ≤ b → b ≤ length t → Pass f t a b → (b < length t → f (byte t b) ≡ false) → skip-forward f t a ≡ b
+skip-forward-is f t a b l h p stops =
+    ⊎-elim (λ (k : b < skip-forward f t b). absurd (true≢false (sym (skip-forward-passes f t b b (omega arith) k) ∙ stops (omega (arith, skip-forward-within f t b h))))) (λ (k : skip-forward f t b ≤ b). omega (arith, skip-forward-same f t a b l h p, skip-forward-up f t b)) (cases-lt b (skip-forward f t b))
+
+skip-back-stays : (f : ℕ → Bool) (t : Text) (a : ℕ) → (0 < a → f (byte t (a - 1)) ≡ false) → skip-back f t a ≡ a
+unfolding skip-back
+skip-back-stays f t zero stops = refl
+skip-back-stays f t (suc a) stops =
+    let s : suc a - 1 ≡ a = omega arith in cond-false (f (byte t a)) _ _ (rw s at (stops (omega arith)))
+
+pub skip-back-is : (f : ℕ → Bool) (t : Text) (a b : ℕ) → b ≤ a → Pass f t b a → (0 < b → f (byte t (b - 1)) ≡ false) → skip-back f t a ≡ b
+skip-back-is f t a b l p stops = sym (skip-back-same f t b a l p) ∙ skip-back-stays f t b stops
+
 -- A line's beginning and end.
 
 pub line-start-down : (t : Text) (a : ℕ) → line-start t a ≤ a
@@ -122,6 +135,14 @@ at-line-end t a h = skip-forward-stops is-in-line t a h
 pub before-line-start : (t : Text) (a : ℕ) → 0 < line-start t a → is-in-line (byte t (line-start t a - 1)) ≡ false
 unfolding line-start
 before-line-start t a h = skip-back-stops is-in-line t a h
+
+pub line-end-is : (t : Text) (a b : ℕ) → a ≤ b → b ≤ length t → Pass is-in-line t a b → (b < length t → is-in-line (byte t b) ≡ false) → line-end t a ≡ b
+unfolding line-end
+line-end-is t a b l h p stops = skip-forward-is is-in-line t a b l h p stops
+
+pub line-start-is : (t : Text) (a b : ℕ) → b ≤ a → Pass is-in-line t b a → (0 < b → is-in-line (byte t (b - 1)) ≡ false) → line-start t a ≡ b
+unfolding line-start
+line-start-is t a b l p stops = skip-back-is is-in-line t a b l p stops
 
 -- behind the text there is none but line ends
 pub in-text : (t : Text) (a : ℕ) → is-in-line (byte t a) ≡ true → a < length t

@@ -1,19 +1,19 @@
 -- Motions over words and to a byte: how far they lead, and that the cursor may stand there.
 use mathlib.Core.Path.{_≡_, refl, sym, ap, subst, _∙_}
-use mathlib.Core.Bool.{Bool, true, false, _&&_, _||_, not, cond}
+use mathlib.Core.Bool.{Bool, true, false, _&&_, not}
 use mathlib.Core.List.{List, [], _∷_}
-use mathlib.Core.Logic.{_⊎_, inl, inr, ⊎-elim}
+use mathlib.Core.Logic.{⊎-elim}
 use mathlib.Core.Option.{Option, some, none}
-use Prim.Native.Nat.{ℕ, zero, suc, _+_, _-_, _≤_, _<_, min, max}
+use Prim.Native.Nat.{ℕ, zero, suc, _+_, _-_, _≤_, _<_}
 use native.Mathlib.Omega.{arith}
-use lib.ListN.{length, take, drop, length-take, length-drop}
+use lib.ListN.{length, drop, length-take}
 use lib.Dec.{eqb}
-use Rattle.std.proofs.shelf.Tests.{cond-both, and-parts, eqb-true, true≢false, cond-true, cases-lt}
+use Rattle.std.proofs.shelf.Tests.{cond-both, and-parts, eqb-true, true≢false, cases-lt}
 use Rattle.std.proofs.shelf.Ways.{tells}
 use Rattle.spec.specs.Bytes.{Class, white, alphanumeric, punctuation, class, same-class, is-white, is-newline}
 use Rattle.spec.specs.Text.{Text, byte, part, skip-forward, skip-back, is-in-line, line-end, line-start}
-use Rattle.spec.specs.Motions.{times, is-empty-line, white-span, skip-white, word-passed, next-word, skip-white-back, word-start, previous-word, word-last, word-end, nth-found, find-in-line}
-use Rattle.laws.proofs.TextLines.{skip-forward-up, skip-forward-bound, skip-back-down, skip-back-passes, line-start-down, line-end-within}
+use Rattle.spec.specs.Motions.{times, is-empty-line, skip-white, word-passed, next-word, skip-white-back, word-start, previous-word, word-last, word-end, nth-found, find-in-line}
+use Rattle.laws.proofs.TextLines.{skip-forward-up, skip-forward-bound, skip-back-down, skip-back-passes}
 use Rattle.laws.proofs.Standing.{Stands-at, line-start-stands, byte-stands}
 
 -- a function so many times keeps what it keeps once

@@ -2,7 +2,7 @@
 use mathlib.Core.Path.{_≡_, refl}
 use mathlib.Core.Bool.{Bool, true, _&&_}
 use mathlib.Core.List.{List, [], _∷_}
-use Prim.Native.Nat.{ℕ, _<_}
+use Prim.Native.Nat.{ℕ}
 use lib.Chars.{codes}
 use lib.Dec.{ltb}
 use Rattle.std.proofs.shelf.Tests.{and-parts, ltb-true}
@@ -35,9 +35,9 @@ sees : Sees-witness (small-after (codes "jjj$"))
 unfolding computing
 sees = record { reachable = small-reachable (codes "jjj$") refl; top = refl; left = refl }
 
-pending : Pending-witness (small-after (codes "2d3"))
+pending : Pending-witness (small-after (codes "$j2d3"))
 unfolding computing can-not cannot-command cannot-move
-pending = record { reachable = small-reachable (codes "2d3") refl; outside = refl; pending = refl; goes-on = refl; cannot = refl; can = refl }
+pending = record { reachable = small-reachable (codes "$j2d3") refl; outside = refl; kept-column = refl; column = refl; pending = refl; goes-on = refl; cannot = refl; can = refl }
 
 pub cursor-witnesses : Cursor-witnesses
 cursor-witnesses = record { stands = stands; sees = sees; pending = pending }

@@ -8,7 +8,7 @@ use lib.Chars.{codes}
 use lib.ListN.{length}
 use lib.Dec.{eqb, ltb, leb}
 use Rattle.spec.specs.Bytes.{ascii, escape, is-typeable}
-use Rattle.spec.specs.Text.{line-end, last-in-line}
+use Rattle.spec.specs.Text.{line-end, column, last-in-line}
 use Rattle.spec.specs.Motions.{Motion, to-line-start, to-line-or-first, find, till, Target, Region, or-one, motion-target, region, lines-region}
 use Rattle.spec.specs.Keys.{Operator, delete, yank, change, same-operator, Argument, byte-to-find, byte-to-stop-before, byte-to-write, second-g, Action, delete-chars, join-lines, put-after, put-before, insert-before, insert-after, insert-at-first-nonblank, insert-at-line-end, insert-line-below, insert-line-above, go-back, go-forth, Key, digit, motion, operator, awaiter, action, repeat, no-command, key-of, Prefix, counting, operating, Pending, ready, awaiting, longer-count, has-count, total-count, is-operating}
 use Rattle.spec.specs.Editor.{Ed, with-command, with-view, no-command-yet, initial}
@@ -157,16 +157,18 @@ pub record Sees-witness (e : Ed) : Type 0 where
   pub top : e .view .top ≡ 2
   pub left : e .view .left ≡ 6
 
--- an operator with a count before and one behind it: f goes on with it; k can't be done in the first line, w can
+-- an operator with a count before and one behind it, where j and k keep to another column than the cursor's: f goes on with it; j can't be done, there aren't as many lines, and w can
 pub record Pending-witness (e : Ed) : Type 0 where
   pub reachable : Reachable e
   pub outside : e .inserting ≡ false
+  pub kept-column : e .kept-column ≡ 18
+  pub column : column (e .text) (e .cursor) ≡ 11
   pub pending : e .command .pending ≡ ready (operating delete 2 3)
   pub goes-on : goes-on-with (e .command .pending) (ascii "f") ≡ some (awaiting byte-to-find (operating delete 2 3))
-  pub cannot : can-not e (ascii "k") ≡ true
+  pub cannot : can-not e (ascii "j") ≡ true
   pub can : can-not e (ascii "w") ≡ false
 
 pub record Cursor-witnesses : Type 0 where
   pub stands : Stands-witness (small-after (codes "$x"))
   pub sees : Sees-witness (small-after (codes "jjj$"))
-  pub pending : Pending-witness (small-after (codes "2d3"))
+  pub pending : Pending-witness (small-after (codes "$j2d3"))
