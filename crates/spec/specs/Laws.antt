@@ -16,7 +16,8 @@ use Rattle.spec.specs.Dispatch.{key}
 use Rattle.spec.specs.Promises.{Reachable}
 use Rattle.spec.specs.Worked.{after, example}
 
--- What is pending behind a key that only goes on with a command: a digit of a count, an operator's key where none is pending, a key that waits for a byte.
+-- What is pending after a key that only goes on with a command:
+-- a digit of a count, an operator's key where none is pending, a key that waits for a byte.
 abbrev pub continued : Prefix → Key → Option Pending
 continued p (digit d) = cond (eqb d 0 && not (has-count p)) none (some (ready (longer-count p d)))
 continued p (motion m) = none
@@ -140,7 +141,7 @@ pub record Harmless (e : Ed) : Type 0 where
 abbrev pub Pending-is-harmless : Type 0
 Pending-is-harmless = (e : Ed) → Reachable e → e .inserting ≡ false → Harmless e
 
--- Editors to which these theorems apply with something to say: the example on three rows and twelve columns after keys.
+-- Editors to which the theorems on the cursor apply with something to say: the example on 3 rows and 12 columns after keys.
 abbrev pub small-after : List ℕ → Ed
 small-after ks = after (initial example 3 12) ks
 
@@ -157,7 +158,8 @@ pub record Sees-witness (e : Ed) : Type 0 where
   pub top : e .view .top ≡ 2
   pub left : e .view .left ≡ 6
 
--- an operator with a count before and one behind it, where j and k keep to another column than the cursor's: f goes on with it; j can't be done, there aren't as many lines, and w can
+-- an operator with a count before it and one behind it, where j and k keep to another column than the cursor's:
+-- f goes on with it; j can't be done, since there aren't as many lines; w can
 pub record Pending-witness (e : Ed) : Type 0 where
   pub reachable : Reachable e
   pub outside : e .inserting ≡ false
