@@ -11,3 +11,4 @@ pub mod Screen
 pub mod Terminal
 pub mod Promises
 pub mod Worked
+pub mod Laws
