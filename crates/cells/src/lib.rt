@@ -1,0 +1,3 @@
+//! Immutable cells with counts in a row of words.
+mod cell;
+pub use cell::{NONE, Ref};
