@@ -1,3 +1,6 @@
 pub mod Lists
 pub mod Rows
 pub mod Tallies
+pub mod Changes
+pub mod Held
+pub mod Sharings

@@ -8,10 +8,31 @@ use words::Words;
 
 /// A cell, or none.
 #[derive(Clone, Copy)]
-pub struct Ref(u32);
+pub struct Ref(pub(crate) u32);
 
 /// Refers to nothing.
 pub const NONE: Ref = Ref(0);
+
+/// The cell whose first words are the heap's own.
+pub(crate) const HEADER: Ref = Ref(0);
+
+/// In the header, how many cells were taken.
+pub(crate) const TAKEN: usize = 0;
+
+/// In the header, the first dead cell.
+pub(crate) const FIRST_DEAD: usize = 1;
+
+pub(crate) const COUNT: usize = 0;
+
+pub(crate) const LEFT: usize = 1;
+
+pub(crate) const RIGHT: usize = 2;
+
+/// The first of a cell's data words.
+pub(crate) const DATA: usize = 3;
+
+/// In a dead cell, the next dead one: a data word, so that the children stay.
+pub(crate) const LINK: usize = 3;
 
 impl Ref {
     /// Whether it refers to nothing.
