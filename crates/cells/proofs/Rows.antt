@@ -6,9 +6,9 @@ use Prim.Native.Nat.{ℕ, zero, suc, _+_, _*_, _<_, _≤_, _-_}
 use native.Mathlib.Omega.{arith}
 use Rattle.std.proofs.shelf.Tests.{cases-lt}
 use lib.ListN.{length, getD, set, take, drop}
-use Rattle.std.proofs.shelf.Lists.{length-set, length-take, length-take-le, length-drop, getD-set-same, getD-set-other, drop-set-add, ext-getD, length-append, getD-append-left, getD-append-right, getD-take}
+use Rattle.std.proofs.shelf.Lists.{length-set, length-take, length-take-le, length-drop, getD-set-same, getD-set-other, drop-set-add, ext-getD, length-append, getD-append-left, getD-append-right, getD-take, getD-drop}
 use Rattle.cells.specs.Layout.{cell, at, put, over, filled, state}
-use Rattle.cells.proofs.Lists.{part-same, getD-part, take-set, length-over, getD-over-below, getD-over, getD-over-past}
+use Rattle.cells.proofs.Lists.{part-same, getD-part, take-set, length-over, getD-over-below, getD-over, getD-over-past, over-more}
 
 pub length-put : (m : List ℕ) (p k x : ℕ) → length (put m p k x) ≡ length m
 unfolding put
@@ -93,6 +93,18 @@ module _ (m w : List ℕ) (p : ℕ) (thirteen : length w ≡ 13) (long : 16 * p 
                 ap (λ z. getD (over m (16 * p + 3) w) z 0) e ∙ getD-over m (16 * p + 3) (k - 3) w (omega arith) (omega arith)
                 ∙ sym (getD-append-right (take 3 c) w 3 k 0 three a)
           ])
+
+-- one more data word of cell p
+pub data-more : (m w : List ℕ) (p k : ℕ) → k < length w → 16 * p + 3 + length w ≤ length m → put (over m (16 * p + 3) (take k w)) p (3 + k) (getD w k 0) ≡ over m (16 * p + 3) (take (k + 1) w)
+unfolding put
+data-more m w p k lt long =
+    let e : 16 * p + (3 + k) ≡ 16 * p + 3 + k = omega arith in
+    ap (λ i. set (over m (16 * p + 3) (take k w)) i (getD w k 0)) e ∙ over-more m (16 * p + 3) k w lt long
+
+-- a data word, by its place among them
+pub at-data : (m : List ℕ) (p k : ℕ) → at m p (3 + k) ≡ getD (drop 3 (cell m p)) k 0
+unfolding at
+at-data m p k = sym (getD-drop 3 (cell m p) k 0)
 
 three-set : (c : List ℕ) (x y z : ℕ) → 3 ≤ length c → take 3 (set (set (set c 0 x) 1 y) 2 z) ≡ x ∷ (y ∷ (z ∷ []))
 three-set [] x y z h = absurd (omega arith)

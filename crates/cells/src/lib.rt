@@ -1,5 +1,7 @@
 //! Immutable cells with counts in a row of words.
 mod cell;
+mod data;
 mod holding;
 pub use cell::{NONE, Ref};
+pub use data::Data;
 pub use holding::{release, share};
