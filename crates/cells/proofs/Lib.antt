@@ -4,3 +4,5 @@ pub mod Tallies
 pub mod Changes
 pub mod Held
 pub mod Sharings
+pub mod Trees
+pub mod Makings

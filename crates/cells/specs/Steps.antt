@@ -1,6 +1,6 @@
 -- What the calls ask and do.
 use mathlib.Core.Path.{_≡_}
-use mathlib.Core.Logic.{_⊎_}
+use mathlib.Core.Logic.{_≢_, _⊎_}
 use mathlib.Core.List.{List, [], _∷_}
 use Prim.Native.Nat.{ℕ, _+_, _*_, _<_, _≤_}
 use lib.ListN.{length, getD}
@@ -56,6 +56,16 @@ pub record Making (m : List ℕ) (l r : ℕ) : Type 0 where
 -- from m to m′ the references l and r went into a new node d
 pub record Made (m m′ : List ℕ) (d l r : ℕ) (w : List ℕ) : Type 0 where
   pub have : (u v : Tree) (rest : List Item) → Have m (item l u ∷ (item r v ∷ rest)) → Have m′ (item d (node u v w) ∷ rest)
+
+-- l and r are held, and d is the first dead cell
+pub record Reusing (m : List ℕ) (d l r : ℕ) : Type 0 where
+  pub making : Making m l r
+  pub first : d ≡ first-dead m
+  pub some : d ≢ 0
+
+-- from m to m′ the references l and r were let go
+pub record Dropped (m m′ : List ℕ) (l r : ℕ) : Type 0 where
+  pub have : (u v : Tree) (rest : List Item) → Have m (item l u ∷ (item r v ∷ rest)) → Have m′ rest
 
 -- There is no dead cell and no room for another. The trees of all that is held then have as many cells as were taken, the header's 8 aside.
 pub record Full (m : List ℕ) : Type 0 where
