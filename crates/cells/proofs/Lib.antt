@@ -6,3 +6,5 @@ pub mod Held
 pub mod Sharings
 pub mod Trees
 pub mod Makings
+pub mod Extends
+pub mod Reaches

@@ -25,7 +25,7 @@ pub record Written (m : List ℕ) (d l r : ℕ) (w : List ℕ) : Type 0 where
   pub right : at m d 2 ≡ r
   pub word : drop 3 (cell m d) ≡ w
 
-written : (m : List ℕ) (d l r : ℕ) (w : List ℕ) → cell m d ≡ 1 ∷ (l ∷ (r ∷ w)) → Written m d l r w
+pub written : (m : List ℕ) (d l r : ℕ) (w : List ℕ) → cell m d ≡ 1 ∷ (l ∷ (r ∷ w)) → Written m d l r w
 unfolding at
 written m d l r w e = record { count = ap (λ c. getD c 0 0) e; left = ap (λ c. getD c 1 0) e; right = ap (λ c. getD c 2 0) e; word = ap (drop 3) e }
 
@@ -40,7 +40,7 @@ first-inside m xs d s is some = go (s .dead) (s .buried)
         (omega (arith, b .chain .0, i .0), omega (arith, b .chain .0, i .1, s .counted .fits))
 
 -- a value that stays, at a child's place
-child-val : (m : List ℕ) (p q : ℕ) (v : Tree) → q ≡ p → Val m p v → Val m q v
+pub child-val : (m : List ℕ) (p q : ℕ) (v : Tree) → q ≡ p → Val m p v → Val m q v
 child-val m p q v e h = subst (λ z. Val m z v) (sym e) h
 
 -- d was dead, and is written; what were its children are held in the place of what are
@@ -175,3 +175,43 @@ module _ (m : List ℕ) (d l r : ℕ) (w : List ℕ) (thirteen : length w ≡ 13
   kept-reuse =
       kept-on m m1 (filled m1 d l r w) (kept-put m 0 1 (at m d 3) (λ one. absurd (omega arith)) (omega arith))
       (record { long = length-filled m1 w d l r thirteen long1; state = state-filled m1 w d l r thirteen long1 lo })
+
+-- the cell that is used again
+pub reuse-inside : (m : List ℕ) (d l r : ℕ) → Reusing m d l r → (8 ≤ d) × (16 * d + 16 ≤ length m)
+reuse-inside m d l r a = first-inside m (l ∷ (r ∷ refs (a .making .rest))) d (a .making .have .sound) (a .first) (a .some)
+
+-- The steps of using it again: it is written, and what were its children, a and b, are let go.
+module _ (m m2 : List ℕ) (d l r a b : ℕ) (w : List ℕ) (using-it : Reusing m d l r) (thirteen : length w ≡ 13) (is : m2 ≡ filled (put m 0 1 (at m d 3)) d l r w)
+    (is-a : a ≡ at (put m 0 1 (at m d 3)) d 1) (is-b : b ≡ at (put m 0 1 (at m d 3)) d 2) where
+  in-d : (8 ≤ d) × (16 * d + 16 ≤ length m)
+  in-d = reuse-inside m d l r using-it
+
+  old-child : (k : ℕ) → at (put m 0 1 (at m d 3)) d k ≡ at m d k
+  old-child k = let lo = in-d .0 in at-cell m (put m 0 1 (at m d 3)) d (cell-other m 0 1 (at m d 3) d (omega arith) (omega arith)) k
+
+  pub after-fill : (u v : Tree) (rest : List Item) → Have m (item l u ∷ (item r v ∷ rest)) → (x y : Tree) × Have m2 (item a x ∷ (item b y ∷ (item d (node u v w) ∷ rest)))
+  after-fill u v rest h =
+      let t = reused m d l r w thirteen (using-it .first) (in-d .0) (in-d .1) u v rest h in
+      let ea : at m d 1 ≡ a = sym (is-a ∙ old-child 1) in
+      let eb : at m d 2 ≡ b = sym (is-b ∙ old-child 2) in
+      (
+        t .0,
+        t .1,
+        subst (λ z. Have z (item a (t .0) ∷ (item b (t .1) ∷ (item d (node u v w) ∷ rest)))) (sym is)
+        (subst (λ z. Have (filled (put m 0 1 (at m d 3)) d l r w) (item a (t .0) ∷ (item z (t .1) ∷ (item d (node u v w) ∷ rest)))) eb
+        (subst (λ z. Have (filled (put m 0 1 (at m d 3)) d l r w) (item z (t .0) ∷ (item (at m d 2) (t .1) ∷ (item d (node u v w) ∷ rest)))) ea (t .2))),
+      )
+
+  pub after-drop : Making m2 a b
+  after-drop =
+      let p = using-it .making in
+      let t = after-fill (p .left) (p .right) (p .rest) (p .have) in
+      record { left = t .0; right = t .1; rest = item d (node (p .left) (p .right) w) ∷ p .rest; have = t .2 }
+
+  pub reuse-made : (m3 : List ℕ) → Dropped m2 m3 a b → Made m m3 d l r w
+  reuse-made m3 gone =
+      record { have = λ u v rest h. (let t = after-fill u v rest h in gone .have (t .0) (t .1) (item d (node u v w) ∷ rest) (t .2)) }
+
+  pub reuse-kept : (m3 : List ℕ) → Kept m2 m3 → Kept m m3
+  reuse-kept m3 k =
+      kept-on m m2 m3 (subst (λ z. Kept m z) (sym is) (kept-reuse m d l r w thirteen (using-it .first) (in-d .0) (in-d .1))) k

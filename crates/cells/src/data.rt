@@ -38,6 +38,7 @@ pub(crate) fn load_word<W: Words>(words: &mut W, p: Ref, k: usize) -> u32
 pub(crate) fn store<W: Words>(words: &mut W, p: Ref, data: Data)
     requires within { ⌜ 16 * p .0 + 16 ≤ length (row (now words)) ⌝ }
     ensures same { λ _. ⌜ row (now (words .exit)) ≡ over (row (now (words .entry))) (16 * p .0 + 3) «data» ⌝ }
+    ensures long { λ _. ⌜ length (row (now (words .exit))) ≡ length (row (now (words .entry))) ⌝ }
     ensures touches { λ _. ⌜ touched (now (words .exit)) ≤ touched (now (words .entry)) + 13 ⌝ }
 {
     for k in 0..13 {

@@ -2,6 +2,8 @@
 mod cell;
 mod data;
 mod holding;
+mod making;
 pub use cell::{NONE, Ref};
 pub use data::Data;
 pub use holding::{release, share};
+pub use making::alloc;

@@ -33,5 +33,6 @@ returns g c =
     let long : length (c .args .data) ≡ 13 = search needs in
     record {
       same = c .loop-k .inv .0 ∙ ap (over m (16 * c .args .p .0 + 3)) (take-all (c .loop-k .k) (c .args .data) (omega arith));
+      long = c .loop-k .inv .1;
       touches = omega (arith, c .loop-k .inv .2);
     }
