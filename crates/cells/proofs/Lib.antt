@@ -8,3 +8,4 @@ pub mod Trees
 pub mod Makings
 pub mod Extends
 pub mod Reaches
+pub mod Openings

@@ -6,4 +6,4 @@ mod making;
 pub use cell::{NONE, Ref};
 pub use data::Data;
 pub use holding::{release, share};
-pub use making::alloc;
+pub use making::{Node, alloc, make, open};

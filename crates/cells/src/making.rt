@@ -3,7 +3,7 @@ ghost use mathlib.Core.Path.{_≡_};
 ghost use Prim.Native.Nat.{ℕ, _+_, _*_, _<_, _≤_};
 ghost use lib.ListN.{length};
 ghost use Rattle.cells.specs.Layout.{at, put, filled};
-ghost use Rattle.cells.specs.Steps.{Kept, Making, Made, Dropped, Reusing, Refused};
+ghost use Rattle.cells.specs.Steps.{Kept, Making, Made, Dropped, Reusing, Refused, Built, Opening, Opened};
 ghost use Rattle.std.specs.Options.{Cases as BySome};
 use crate::cell::COUNT;
 use crate::cell::FIRST_DEAD;
@@ -16,12 +16,22 @@ use crate::cell::TAKEN;
 use crate::cell::word;
 use crate::cell::write;
 use crate::data::Data;
+use crate::data::load;
 use crate::data::store;
 use crate::holding::release;
+use crate::holding::share;
 use words::Words;
 
 /// No more cells than this, so that each count fits a word.
 const MOST_CELLS: u32 = 268435456;
+
+/// What a cell is made of.
+#[derive(Clone, Copy)]
+pub struct Node {
+    pub left: Ref,
+    pub right: Ref,
+    pub data: Data,
+}
 
 /// The children of a cell.
 #[derive(Clone, Copy)]
@@ -133,4 +143,35 @@ pub fn alloc<W: Words>(words: &mut W, left: Ref, right: Ref, data: Data) -> Opti
     } else {
         extend(words, left, right, data)
     }
+}
+
+/// A new node with these children, or none, and both let go, where there is no room.
+pub fn make<W: Words>(words: &mut W, left: Ref, right: Ref, data: Data) -> Option<Ref>
+    requires { ⌜ Making (row (now words)) (left .0) (right .0) ⌝ }
+    ensures built { λ r. ⌜ Built (row (now (words .entry))) (row (now (words .exit))) r (left .0) (right .0) «data» ⌝ }
+    ensures kept { λ _. ⌜ Kept (row (now (words .entry))) (row (now (words .exit))) ⌝ }
+    ensures touches { λ _. ⌜ touched (now (words .exit)) ≤ touched (now (words .entry)) + 41 ⌝ }
+{
+    match alloc(words, left, right, data) {
+        Some(d) => Some(d),
+        None => {
+            release_both(words, left, right);
+            None
+        }
+    }
+}
+
+/// Lets the node `p` go, for its children and its data.
+pub fn open<W: Words>(words: &mut W, p: Ref) -> Node
+    requires { ⌜ Opening (row (now words)) (p .0) ⌝ }
+    ensures opened { λ r. ⌜ Opened (row (now (words .entry))) (row (now (words .exit))) (p .0) (r .left .0) (r .right .0) (r .«data») ⌝ }
+    ensures kept { λ _. ⌜ Kept (row (now (words .entry))) (row (now (words .exit))) ⌝ }
+    ensures touches { λ _. ⌜ touched (now (words .exit)) ≤ touched (now (words .entry)) + 24 ⌝ }
+{
+    let old = children_of(words, p);
+    let data = load(words, p);
+    share(words, old.right);
+    share(words, old.left);
+    release(words, p);
+    Node { left: old.left, right: old.right, data }
 }
