@@ -26,6 +26,21 @@ pub record Reading (m : List ℕ) (p : ℕ) : Type 0 where
   pub have : Have m rest
   pub lent : Lent m p (node left right word)
 
+-- q is the left child of p, and lent as p is
+pub record LeftRead (m : List ℕ) (p q : ℕ) : Type 0 where
+  pub lent : (u v : Tree) (w : List ℕ) (rest : List Item) → Have m rest → Lent m p (node u v w) → Lent m q u
+
+pub record RightRead (m : List ℕ) (p q : ℕ) : Type 0 where
+  pub lent : (u v : Tree) (w : List ℕ) (rest : List Item) → Have m rest → Lent m p (node u v w) → Lent m q v
+
+-- x is data word k of p
+pub record WordRead (m : List ℕ) (p k x : ℕ) : Type 0 where
+  pub is : (u v : Tree) (w : List ℕ) → Val m p (node u v w) → x ≡ getD w k 0
+
+-- xs are the data words of p
+pub record WordsRead (m : List ℕ) (p : ℕ) (xs : List ℕ) : Type 0 where
+  pub are : (u v : Tree) (w : List ℕ) → Val m p (node u v w) → xs ≡ w
+
 -- p may be shared: it is lent, and few references are held
 pub record Sharing (m : List ℕ) (p : ℕ) : Type 0 where
   pub rest : List Item

@@ -15,11 +15,13 @@ use crate::cell::Ref;
 use crate::cell::TAKEN;
 use crate::cell::word;
 use crate::cell::write;
-use crate::data::Data;
-use crate::data::load;
-use crate::data::store;
+use crate::content::Data;
+use crate::content::load;
+use crate::content::store;
 use crate::holding::release;
 use crate::holding::share;
+use crate::reading::left_of;
+use crate::reading::right_of;
 use words::Words;
 
 /// No more cells than this, so that each count fits a word.
@@ -48,8 +50,8 @@ fn children_of<W: Words>(words: &mut W, p: Ref) -> Children
     ensures same { λ _. ⌜ row (now (words .exit)) ≡ row (now (words .entry)) ⌝ }
     ensures touches { λ _. ⌜ touched (now (words .exit)) ≤ touched (now (words .entry)) + 2 ⌝ }
 {
-    let left = Ref(word(words, p, LEFT));
-    let right = Ref(word(words, p, RIGHT));
+    let left = left_of(words, p);
+    let right = right_of(words, p);
     Children { left, right }
 }
 

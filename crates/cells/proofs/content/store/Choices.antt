@@ -2,7 +2,7 @@ use mathlib.Core.Path.{_≡_}
 use Prim.Native.Nat.{_+_, _*_, _≤_}
 use lib.ListN.{length, take}
 use Rattle.cells.specs.Layout.{over}
-use Rattle.cells.proofs.data.store.Given as given
+use Rattle.cells.proofs.content.store.Given as given
 
 abbrev pub Inv-loop-k : given.InvT-loop-k
 Inv-loop-k g l =

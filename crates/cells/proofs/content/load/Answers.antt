@@ -7,7 +7,7 @@ use lib.ListN.{length, getD, take, drop}
 use Rattle.std.proofs.shelf.Lists.{take-all, take-more, take-more-set, length-set, length-drop}
 use Rattle.cells.specs.Layout.{at, cell}
 use Rattle.cells.proofs.Rows.{at-data, length-cell}
-use Rattle.cells.proofs.data.load.Needs as need
+use Rattle.cells.proofs.content.load.Needs as need
 
 pub loop-k-holds : need.loop-k-holds
 loop-k-holds g c = (refl, refl, refl, omega arith)

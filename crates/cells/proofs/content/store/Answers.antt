@@ -7,7 +7,7 @@ use Rattle.std.proofs.shelf.Lists.{take-all}
 use Rattle.cells.specs.Layout.{over, put}
 use Rattle.cells.proofs.Lists.{over-none}
 use Rattle.cells.proofs.Rows.{data-more}
-use Rattle.cells.proofs.data.store.Needs as need
+use Rattle.cells.proofs.content.store.Needs as need
 
 pub loop-k-holds : need.loop-k-holds
 loop-k-holds g c = (sym (over-none _ _), refl, omega arith)
