@@ -129,7 +129,7 @@ pub record Agree (m m′ : List ℕ) : Type 0 where
   pub cells : (q : ℕ) → 8 ≤ q → 16 * q + 16 ≤ length m → cell m′ q ≡ cell m q
 
 module _ (m m′ : List ℕ) (a : Agree m m′) where
-  val-agree : (xs : List ℕ) (n : ℕ) → Counted m xs n → (v : Tree) (p : ℕ) → Known n p → Val m p v → Val m′ p v
+  pub val-agree : (xs : List ℕ) (n : ℕ) → Counted m xs n → (v : Tree) (p : ℕ) → Known n p → Val m p v → Val m′ p v
   val-agree xs n s none p known v = v
   val-agree xs n s (node l r w) p known v =
       let lo = v .0 in

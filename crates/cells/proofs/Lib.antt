@@ -9,3 +9,4 @@ pub mod Makings
 pub mod Extends
 pub mod Reaches
 pub mod Openings
+pub mod Headers

@@ -14,8 +14,8 @@ pub part-same : (m m′ : List ℕ) (i n : ℕ) → length m′ ≡ length m →
 part-same m m′ i n long same =
     ext-getD 0 (take n (drop i m′)) (take n (drop i m)) (simp (length-take, length-drop) (ap (λ z. min n (z - i)) long))
     (λ k h. (
-      let lt : k < n = omega (arith, simp length-take at h) in
-      getD-take n (drop i m′) k 0 lt ∙ getD-drop i m′ k 0 ∙ same k lt ∙ sym (getD-drop i m k 0) ∙ sym (getD-take n (drop i m) k 0 lt)))
+    let lt : k < n = omega (arith, simp length-take at h) in
+    getD-take n (drop i m′) k 0 lt ∙ getD-drop i m′ k 0 ∙ same k lt ∙ sym (getD-drop i m k 0) ∙ sym (getD-take n (drop i m) k 0 lt)))
 
 pub getD-part : (m : List ℕ) (i n k : ℕ) → k < n → getD (take n (drop i m)) k 0 ≡ getD m (i + k) 0
 getD-part m i n k h = getD-take n (drop i m) k 0 h ∙ getD-drop i m k 0
@@ -67,26 +67,26 @@ over-more m i k xs lt h =
     let long-old = length-over m i (take k xs) (omega arith) in
     let long-new = length-over m i (take (k + 1) xs) (omega arith) in
     ext-getD 0 (set old (i + k) (getD xs k 0)) new (simp length-set (long-old ∙ sym long-new)) (λ j hj.
-        elim (cases-lt j i) [
-          | inl a ↦
-              getD-set-other old (i + k) j (getD xs k 0) 0 (omega arith)
-              ∙ getD-over-below m i j (take k xs) (omega arith) a ∙ sym (getD-over-below m i j (take (k + 1) xs) (omega arith) a)
-          | inr a ↦ elim (cases-lt j (i + k)) [
-            | inl b ↦
-                let e : i + (j - i) ≡ j = omega arith in
-                getD-set-other old (i + k) j (getD xs k 0) 0 (omega arith)
-                ∙ inside j (take k xs) a (omega arith) ∙ getD-take k xs (j - i) 0 (omega arith)
-                ∙ sym (inside j (take (k + 1) xs) a (omega arith) ∙ getD-take (k + 1) xs (j - i) 0 (omega arith))
-            | inr b ↦ elim (cases-eq j (i + k)) [
-              | inl c ↦
-                  ap (λ z. getD (set old (i + k) (getD xs k 0)) z 0) c ∙ getD-set-same old (i + k) (getD xs k 0) 0 (omega arith)
-                  ∙ sym (getD-take (k + 1) xs k 0 (omega arith)) ∙ sym (getD-over m i k (take (k + 1) xs) (omega arith) (omega arith)) ∙ ap (λ z. getD new z 0) (sym c)
-              | inr c ↦
-                  getD-set-other old (i + k) j (getD xs k 0) 0 c
-                  ∙ getD-over-past m i j (take k xs) (omega arith) (omega arith) ∙ sym (getD-over-past m i j (take (k + 1) xs) (omega arith) (omega arith))
-            ]
-          ]
-        ])
+    elim (cases-lt j i) [
+      | inl a ↦
+          getD-set-other old (i + k) j (getD xs k 0) 0 (omega arith)
+          ∙ getD-over-below m i j (take k xs) (omega arith) a ∙ sym (getD-over-below m i j (take (k + 1) xs) (omega arith) a)
+      | inr a ↦ elim (cases-lt j (i + k)) [
+        | inl b ↦
+            let e : i + (j - i) ≡ j = omega arith in
+            getD-set-other old (i + k) j (getD xs k 0) 0 (omega arith)
+            ∙ inside j (take k xs) a (omega arith) ∙ getD-take k xs (j - i) 0 (omega arith)
+            ∙ sym (inside j (take (k + 1) xs) a (omega arith) ∙ getD-take (k + 1) xs (j - i) 0 (omega arith))
+        | inr b ↦ elim (cases-eq j (i + k)) [
+          | inl c ↦
+              ap (λ z. getD (set old (i + k) (getD xs k 0)) z 0) c ∙ getD-set-same old (i + k) (getD xs k 0) 0 (omega arith)
+              ∙ sym (getD-take (k + 1) xs k 0 (omega arith)) ∙ sym (getD-over m i k (take (k + 1) xs) (omega arith) (omega arith)) ∙ ap (λ z. getD new z 0) (sym c)
+          | inr c ↦
+              getD-set-other old (i + k) j (getD xs k 0) 0 c
+              ∙ getD-over-past m i j (take k xs) (omega arith) (omega arith) ∙ sym (getD-over-past m i j (take (k + 1) xs) (omega arith) (omega arith))
+        ]
+      ]
+    ])
   where
     inside : (j : ℕ) (ys : List ℕ) → i ≤ j → j < i + length ys → getD (over m i ys) j 0 ≡ getD ys (j - i) 0
     inside j ys a b =

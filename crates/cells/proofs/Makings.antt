@@ -64,8 +64,7 @@ module _ (m m′ : List ℕ) (d l r : ℕ) (w : List ℕ) (near : Near m m′ d)
       let known-l = c .holds l (omega (arith, hit-eq l l refl)) in
       let known-r = c .holds r (omega (arith, hit-eq r r refl)) in
       let known-a = c .left d lo hi in
-      let known-e = c .right d lo hi in
-      (
+      let known-e = c .right d lo hi in (
         record {
           cells = n;
           dead = dead;
@@ -83,12 +82,12 @@ module _ (m m′ : List ℕ) (d l r : ℕ) (w : List ℕ) (near : Near m m′ d)
               ])
               (subst (Known n) (sym (is .left)) known-l) (subst (Known n) (sym (is .right)) known-r)
               (λ q lq hq. (
-                let hl = ap (λ z. hit z q) (is .left) in
-                let hr = ap (λ z. hit z q) (is .right) in
-                elim (cases-eq q d) [
-                  | inl y ↦ omega (arith, hl, hr, is .count, ap (λ z. at m′ z 0) y, ap (λ z. at m z 0) y, hit-eq d q (sym y))
-                  | inr ne ↦ omega (arith, hl, hr, at-cell m m′ q (near .others q lq ne) 0, hit-ne d q (λ y. ne (sym y)))
-                ]));
+              let hl = ap (λ z. hit z q) (is .left) in
+              let hr = ap (λ z. hit z q) (is .right) in
+              elim (cases-eq q d) [
+                | inl y ↦ omega (arith, hl, hr, is .count, ap (λ z. at m′ z 0) y, ap (λ z. at m z 0) y, hit-eq d q (sym y))
+                | inr ne ↦ omega (arith, hl, hr, at-cell m m′ q (near .others q lq ne) 0, hit-ne d q (λ y. ne (sym y)))
+              ]));
           buried = buried-less m m′ n d near lo hi dead b head (omega (arith, is .count));
           ranked =
               ranked-fill m m′ n n d t alone (λ y. no-l (sym (is .left) ∙ y)) (λ y. no-r (sym (is .right) ∙ y))
@@ -110,23 +109,25 @@ module _ (m m′ : List ℕ) (d l r : ℕ) (w : List ℕ) (near : Near m m′ d)
       let keep : (p : ℕ) (x : Tree) → 0 < occ p (l ∷ (r ∷ refs rest)) → Val m p x → Val m′ p x = λ p x o.
       val-apart m m′ (l ∷ (r ∷ refs rest)) n d c (r3 .1) (λ q lq hq ne. near .others q lq ne) x p (c .holds p o) (not-held d (l ∷ (r ∷ refs rest)) (r3 .2) p o) in
       let a = tree-of m′ (at m d 1 ∷ (at m d 2 ∷ (d ∷ refs rest))) s (at m d 1) (s .counted .holds (at m d 1) (omega (arith, hit-eq (at m d 1) (at m d 1) refl))) in
-      let e = tree-of m′ (at m d 1 ∷ (at m d 2 ∷ (d ∷ refs rest))) s (at m d 2) (s .counted .holds (at m d 2) (omega (arith, hit-eq (at m d 2) (at m d 2) refl))) in
-      (
+      let e = tree-of m′ (at m d 1 ∷ (at m d 2 ∷ (d ∷ refs rest))) s (at m d 2) (s .counted .holds (at m d 2) (omega (arith, hit-eq (at m d 2) (at m d 2) refl))) in (
         a .0,
         e .0,
         record {
           sound = s;
           stand = (
             a .1,
-            (e .1, (
+            (
+              e .1,
               (
-                i .0,
-                child-val m′ l (at m′ d 1) u (is .left) (keep l u (omega (arith, hit-eq l l refl)) (stand .0)),
-                child-val m′ r (at m′ d 2) v (is .right) (keep r v (omega (arith, hit-eq r r refl)) (stand .1 .0)),
-                is .word,
+                (
+                  i .0,
+                  child-val m′ l (at m′ d 1) u (is .left) (keep l u (omega (arith, hit-eq l l refl)) (stand .0)),
+                  child-val m′ r (at m′ d 2) v (is .right) (keep r v (omega (arith, hit-eq r r refl)) (stand .1 .0)),
+                  is .word,
+                ),
+                stand-on m m′ rest (λ p x o. keep p x (omega arith)) (stand .1 .1),
               ),
-              stand-on m m′ rest (λ p x o. keep p x (omega arith)) (stand .1 .1),
-            )),
+            ),
           );
         },
       )
@@ -193,13 +194,12 @@ module _ (m m2 : List ℕ) (d l r a b : ℕ) (w : List ℕ) (using-it : Reusing 
   after-fill u v rest h =
       let t = reused m d l r w thirteen (using-it .first) (in-d .0) (in-d .1) u v rest h in
       let ea : at m d 1 ≡ a = sym (is-a ∙ old-child 1) in
-      let eb : at m d 2 ≡ b = sym (is-b ∙ old-child 2) in
-      (
+      let eb : at m d 2 ≡ b = sym (is-b ∙ old-child 2) in (
         t .0,
         t .1,
         subst (λ z. Have z (item a (t .0) ∷ (item b (t .1) ∷ (item d (node u v w) ∷ rest)))) (sym is)
-        (subst (λ z. Have (filled (put m 0 1 (at m d 3)) d l r w) (item a (t .0) ∷ (item z (t .1) ∷ (item d (node u v w) ∷ rest)))) eb
-        (subst (λ z. Have (filled (put m 0 1 (at m d 3)) d l r w) (item z (t .0) ∷ (item (at m d 2) (t .1) ∷ (item d (node u v w) ∷ rest)))) ea (t .2))),
+            (subst (λ z. Have (filled (put m 0 1 (at m d 3)) d l r w) (item a (t .0) ∷ (item z (t .1) ∷ (item d (node u v w) ∷ rest)))) eb
+            (subst (λ z. Have (filled (put m 0 1 (at m d 3)) d l r w) (item z (t .0) ∷ (item (at m d 2) (t .1) ∷ (item d (node u v w) ∷ rest)))) ea (t .2))),
       )
 
   pub after-drop : Making m2 a b

@@ -101,15 +101,15 @@ child-spot m k ks p (node l r w) a q i lo =
     let oq = occ-append q sl sr in
     ⊎-elim
     (λ (e : p ≡ q). ⊎-elim
-        (λ (k1 : k ≡ 1). let is : c ≡ at m p 1 = ap (λ z. at m z k) (sym e) ∙ ap (at m p) k1 in
-            let got : 0 < occ c sl = subst (λ z. 0 < occ z sl) (sym is) (root-spot m (at m p 1) l (a .1) (omega arith)) in omega arith)
-        (λ (k2 : k ≡ 2). let is : c ≡ at m p 2 = ap (λ z. at m z k) (sym e) ∙ ap (at m p) k2 in
-            let got : 0 < occ c sr = subst (λ z. 0 < occ z sr) (sym is) (root-spot m (at m p 2) r (a .2) (omega arith)) in omega arith)
-        ks)
+    (λ (k1 : k ≡ 1). let is : c ≡ at m p 1 = ap (λ z. at m z k) (sym e) ∙ ap (at m p) k1 in
+    let got : 0 < occ c sl = subst (λ z. 0 < occ z sl) (sym is) (root-spot m (at m p 1) l (a .1) (omega arith)) in omega arith)
+    (λ (k2 : k ≡ 2). let is : c ≡ at m p 2 = ap (λ z. at m z k) (sym e) ∙ ap (at m p) k2 in
+    let got : 0 < occ c sr = subst (λ z. 0 < occ z sr) (sym is) (root-spot m (at m p 2) r (a .2) (omega arith)) in omega arith)
+    ks)
     (λ (ne : p ≡ q → ⊥). let z = hit-ne p q ne in ⊎-elim
-        (λ (h : 0 < occ q sl). omega (arith, child-spot m k ks (at m p 1) l (a .1) q h lo))
-        (λ (h : occ q sl ≤ 0). omega (arith, child-spot m k ks (at m p 2) r (a .2) q (omega arith) lo))
-        (cases-lt 0 (occ q sl)))
+    (λ (h : 0 < occ q sl). omega (arith, child-spot m k ks (at m p 1) l (a .1) q h lo))
+    (λ (h : occ q sl ≤ 0). omega (arith, child-spot m k ks (at m p 2) r (a .2) q (omega arith) lo))
+    (cases-lt 0 (occ q sl)))
     (cases-eq p q)
 
 under-spot : (m : List ℕ) (h : ℕ) (v : Tree) → Val m h v → (p : ℕ) → Under m h p → 8 ≤ p → 0 < occ p (spots m h v)

@@ -5,9 +5,9 @@ use mathlib.Core.List.{List, [], _∷_, _++_}
 use Prim.Native.Nat.{ℕ, zero, suc, _+_, _*_, _<_, _≤_, _-_}
 use native.Mathlib.Omega.{arith}
 use Rattle.std.proofs.shelf.Tests.{cases-lt}
-use lib.ListN.{length, getD, set, take, drop}
-use Rattle.std.proofs.shelf.Lists.{length-set, length-take, length-take-le, length-drop, getD-set-same, getD-set-other, drop-set-add, ext-getD, length-append, getD-append-left, getD-append-right, getD-take, getD-drop}
-use Rattle.cells.specs.Layout.{cell, at, put, over, filled, state}
+use lib.ListN.{length, getD, set, take, drop, replicate}
+use Rattle.std.proofs.shelf.Lists.{length-set, length-take, length-take-le, length-drop, getD-set-same, getD-set-other, drop-set-add, ext-getD, length-append, getD-append-left, getD-append-right, getD-take, getD-drop, drop-more, set-at, replicate-more, length-replicate, append-assoc, drop-append-le, take-append-le}
+use Rattle.cells.specs.Layout.{cell, at, put, over, filled, state, cleared}
 use Rattle.cells.proofs.Lists.{part-same, getD-part, take-set, length-over, getD-over-below, getD-over, getD-over-past, over-more}
 
 pub length-put : (m : List ℕ) (p k x : ℕ) → length (put m p k x) ≡ length m
@@ -64,10 +64,10 @@ module _ (m w : List ℕ) (p : ℕ) (thirteen : length w ≡ 13) (long : 16 * p 
   pub cell-data-other : (q : ℕ) → q ≢ p → cell (over m (16 * p + 3) w) q ≡ cell m q
   cell-data-other q ne =
       cell-same m (over m (16 * p + 3) w) q length-data (λ k lt.
-          elim (cases-lt q p) [
-            | inl h ↦ getD-over-below m (16 * p + 3) (16 * q + k) w (omega arith) (omega arith)
-            | inr h ↦ getD-over-past m (16 * p + 3) (16 * q + k) w (omega arith) (omega arith)
-          ])
+      elim (cases-lt q p) [
+        | inl h ↦ getD-over-below m (16 * p + 3) (16 * q + k) w (omega arith) (omega arith)
+        | inr h ↦ getD-over-past m (16 * p + 3) (16 * q + k) w (omega arith) (omega arith)
+      ])
 
   pub state-data : 8 ≤ p → state (over m (16 * p + 3) w) ≡ state m
   unfolding state
@@ -82,17 +82,17 @@ module _ (m w : List ℕ) (p : ℕ) (thirteen : length w ≡ 13) (long : 16 * p 
       let three : length (take 3 c) ≡ 3 = length-take-le 3 c (omega (arith, length-cell m p long)) in
       let sixteen : length c′ ≡ 16 = length-cell (over m (16 * p + 3) w) p (omega (arith, length-data)) in
       ext-getD 0 c′ (take 3 c ++ w) (sixteen ∙ sym (simp length-append (omega arith))) (λ k h.
-          let lt : k < 16 = omega arith in
-          getD-part (over m (16 * p + 3) w) (16 * p) 16 k lt ∙
-          elim (cases-lt k 3) [
-            | inl a ↦
-                getD-over-below m (16 * p + 3) (16 * p + k) w (omega arith) (omega arith)
-                ∙ sym (getD-part m (16 * p) 16 k lt) ∙ sym (getD-take 3 c k 0 a) ∙ sym (getD-append-left (take 3 c) w 0 k (omega arith))
-            | inr a ↦
-                let e : 16 * p + k ≡ 16 * p + 3 + (k - 3) = omega arith in
-                ap (λ z. getD (over m (16 * p + 3) w) z 0) e ∙ getD-over m (16 * p + 3) (k - 3) w (omega arith) (omega arith)
-                ∙ sym (getD-append-right (take 3 c) w 3 k 0 three a)
-          ])
+      let lt : k < 16 = omega arith in
+      getD-part (over m (16 * p + 3) w) (16 * p) 16 k lt ∙
+      elim (cases-lt k 3) [
+        | inl a ↦
+            getD-over-below m (16 * p + 3) (16 * p + k) w (omega arith) (omega arith)
+            ∙ sym (getD-part m (16 * p) 16 k lt) ∙ sym (getD-take 3 c k 0 a) ∙ sym (getD-append-left (take 3 c) w 0 k (omega arith))
+        | inr a ↦
+            let e : 16 * p + k ≡ 16 * p + 3 + (k - 3) = omega arith in
+            ap (λ z. getD (over m (16 * p + 3) w) z 0) e ∙ getD-over m (16 * p + 3) (k - 3) w (omega arith) (omega arith)
+            ∙ sym (getD-append-right (take 3 c) w 3 k 0 three a)
+      ])
 
 -- one more data word of cell p
 pub data-more : (m w : List ℕ) (p k : ℕ) → k < length w → 16 * p + 3 + length w ≤ length m → put (over m (16 * p + 3) (take k w)) p (3 + k) (getD w k 0) ≡ over m (16 * p + 3) (take (k + 1) w)
@@ -136,6 +136,44 @@ module _ (m w : List ℕ) (p l r : ℕ) (thirteen : length w ≡ 13) (long : 16 
   cell-filled =
       cell-data (put (put (put m p 0 1) p 1 l) p 2 r) w p thirteen long-two
       ∙ ap (λ c. take 3 c ++ w)
-        (cell-put (put (put m p 0 1) p 1 l) p 2 r (omega arith)
-        ∙ ap (λ c. set c 2 r) (cell-put (put m p 0 1) p 1 l (omega arith) ∙ ap (λ c. set c 1 l) (cell-put m p 0 1 (omega arith))))
+      (cell-put (put (put m p 0 1) p 1 l) p 2 r (omega arith)
+      ∙ ap (λ c. set c 2 r) (cell-put (put m p 0 1) p 1 l (omega arith) ∙ ap (λ c. set c 1 l) (cell-put m p 0 1 (omega arith))))
       ∙ ap (λ c. c ++ w) (three-set (cell m p) 1 l r (omega (arith, length-cell m p long)))
+
+-- zeros from the front on
+pub clear-more : (m : List ℕ) (i : ℕ) → i < length m → set (cleared m i) i 0 ≡ cleared m (i + 1)
+clear-more m i lt =
+    let zs : List ℕ = replicate i 0 in
+    ap (λ ys. set (zs ++ ys) i 0) (drop-more m i 0 lt)
+    ∙ set-at zs (getD m i 0) (drop (i + 1) m) 0 i (length-replicate i 0)
+    ∙ sym (append-assoc zs (0 ∷ []) (drop (i + 1) m))
+    ∙ ap (λ ys. ys ++ drop (i + 1) m) (replicate-more i 0)
+
+pub length-cleared : (m : List ℕ) (i : ℕ) → i ≤ length m → length (cleared m i) ≡ length m
+length-cleared m i h = simp (length-append, length-replicate, length-drop) (omega arith)
+
+-- a write to the state
+module _ (m : List ℕ) (i x : ℕ) (lt : i < 112) where
+  pub state-set : state (set m (16 + i) x) ≡ set (state m) i x
+  unfolding state
+  state-set = ap (take 112) (drop-set-add 16 m i x) ∙ take-set 112 (drop 16 m) i x lt
+
+  pub cell-state : (q : ℕ) → (1 ≤ q → 8 ≤ q) → cell (set m (16 + i) x) q ≡ cell m q
+  cell-state q far =
+      cell-same m (set m (16 + i) x) q (length-set m (16 + i) x)
+      (λ k h. getD-set-other m (16 + i) (16 * q + k) x 0 (λ e. omega (arith, far (omega arith))))
+
+pub state-word : (m : List ℕ) (i : ℕ) → i < 112 → getD m (16 + i) 0 ≡ getD (state m) i 0
+unfolding state
+state-word m i lt = sym (getD-part m 16 112 i lt)
+
+-- zeros behind the row
+module _ (m : List ℕ) (zs : List ℕ) where
+  pub cell-longer : (q : ℕ) → 16 * q + 16 ≤ length m → cell (m ++ zs) q ≡ cell m q
+  unfolding cell
+  cell-longer q h =
+      ap (take 16) (drop-append-le (16 * q) m zs (omega arith)) ∙ take-append-le 16 (drop (16 * q) m) zs (simp length-drop (omega arith))
+
+  pub state-longer : 128 ≤ length m → state (m ++ zs) ≡ state m
+  unfolding state
+  state-longer h = ap (take 112) (drop-append-le 16 m zs (omega arith)) ∙ take-append-le 112 (drop 16 m) zs (simp length-drop (omega arith))

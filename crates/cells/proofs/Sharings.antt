@@ -59,16 +59,23 @@ counted-count m xs ys n d x s lo hi within holds same is =
     counted-change m m′ n d near lo hi xs ys s holds
     (subst (Known n) (sym (b .left)) (s .left d lo hi)) (subst (Known n) (sym (b .right)) (s .right d lo hi))
     (λ q l h. (
-      let left = ap (λ z. hit z q) (b .left) in
-      let right = ap (λ z. hit z q) (b .right) in
-      elim (cases-eq q d) [
-        | inl e ↦
-            omega (
-              arith, is, at-put m d 0 x (omega arith) within, left, right,
-              ap (λ z. at m′ z 0) e, ap (λ z. at m z 0) e, ap (λ z. occ z xs) e, ap (λ z. occ z ys) e,
-            )
-        | inr ne ↦ omega (arith, at-cell m m′ q (near .others q l ne) 0, same q ne, left, right)
-      ]))
+    let left = ap (λ z. hit z q) (b .left) in
+    let right = ap (λ z. hit z q) (b .right) in
+    elim (cases-eq q d) [
+      | inl e ↦
+          omega (
+            arith,
+            is,
+            at-put m d 0 x (omega arith) within,
+            left,
+            right,
+            ap (λ z. at m′ z 0) e,
+            ap (λ z. at m z 0) e,
+            ap (λ z. occ z xs) e,
+            ap (λ z. occ z ys) e,
+          )
+      | inr ne ↦ omega (arith, at-cell m m′ q (near .others q l ne) 0, same q ne, left, right)
+    ]))
 
 -- what stands for a tree and is not none is a cell
 low : (m : List ℕ) (p : ℕ) (v : Tree) → 1 ≤ p → Val m p v → 8 ≤ p
@@ -82,8 +89,7 @@ count-fits m p a one =
     let n = s .cells in
     let below = a .lent .below one in
     let lo : 8 ≤ p = low m p (a .tree) one (a .lent .stands) in
-    let hi : p < 8 + n = omega (arith, s .counted .top) in
-    (
+    let hi : p < 8 + n = omega (arith, s .counted .top) in (
       lo,
       omega (arith, s .counted .fits),
       omega (arith, s .counted .counts p lo hi, s .counted .few, occ-le p (refs (a .rest)), length-refs (a .rest), a .few, ins-le m 1 p n, ins-le m 2 p n),
@@ -240,12 +246,12 @@ module _ (m : List ℕ) (p : ℕ) (lo : 8 ≤ p) where
                     (λ q o. s .counted .holds q (omega arith))
                     (subst (Known n) (sym left) (s .counted .left p lo (k .high))) (subst (Known n) (sym right) (s .counted .right p lo (k .high)))
                     (λ q l hq. (
-                      let hl = ap (λ z. hit z q) left in
-                      let hr = ap (λ z. hit z q) right in
-                      elim (cases-eq q p) [
-                        | inl e ↦ omega (arith, hl, hr, ap (λ z. at m3 z 0) e, ap (λ z. at m z 0) e, hit-eq p q (sym e))
-                        | inr ne ↦ omega (arith, hl, hr, at-cell m m3 q (near .others q l ne) 0, hit-ne p q (λ e. ne (sym e)))
-                      ]));
+                    let hl = ap (λ z. hit z q) left in
+                    let hr = ap (λ z. hit z q) right in
+                    elim (cases-eq q p) [
+                      | inl e ↦ omega (arith, hl, hr, ap (λ z. at m3 z 0) e, ap (λ z. at m z 0) e, hit-eq p q (sym e))
+                      | inr ne ↦ omega (arith, hl, hr, at-cell m m3 q (near .others q l ne) 0, hit-ne p q (λ e. ne (sym e)))
+                    ]));
                 buried =
                     buried-more m m3 n p near lo (k .high) (s .dead) (s .buried)
                     (at-put m2 0 1 p (omega arith) (omega (arith, k .within)))

@@ -2,9 +2,9 @@
 -- children, 3 to 15 its data. Cells 0 to 7 are the header: word 0 is the number of cells that were ever
 -- taken, the header's among them, word 1 the first dead cell, words 2 to 15 are 0, and words 16 to 127
 -- are the state of whoever uses the heap: 16 references and then 96 numbers.
-use mathlib.Core.List.{List, _++_}
+use mathlib.Core.List.{List, _∷_, _++_}
 use Prim.Native.Nat.{ℕ, _+_, _*_}
-use lib.ListN.{length, getD, set, take, drop}
+use lib.ListN.{length, getD, set, take, drop, replicate}
 
 -- the words of cell p
 unfoldable pub cell : List ℕ → ℕ → List ℕ
@@ -43,3 +43,11 @@ state m = take 112 (drop 16 m)
 
 abbrev pub roots : List ℕ → List ℕ
 roots m = take 16 (state m)
+
+-- the first n words are 0
+abbrev pub cleared : List ℕ → ℕ → List ℕ
+cleared m n = replicate n 0 ++ drop n m
+
+-- a header of no cells but its own, and a state of zeros
+abbrev pub fresh : List ℕ → List ℕ
+fresh m = 8 ∷ (replicate 127 0 ++ drop 128 m)

@@ -3,11 +3,11 @@ use mathlib.Core.Path.{_≡_}
 use mathlib.Core.Logic.{_≢_, _⊎_}
 use mathlib.Core.List.{List, [], _∷_}
 use Prim.Native.Nat.{ℕ, _+_, _*_, _<_, _≤_}
-use lib.ListN.{length, getD}
+use lib.ListN.{length, getD, replicate}
 use Rattle.std.specs.declared.option.Option.{Option}
 use Rattle.std.specs.declared.option.Option.the-variants.{None}
 use Rattle.cells.specs.declared.cell.Ref.{Ref}
-use Rattle.cells.specs.Layout.{at, state, taken, first-dead}
+use Rattle.cells.specs.Layout.{at, state, fresh, taken, first-dead}
 use Rattle.cells.specs.Tree.{Tree, none, node, Val}
 use Rattle.cells.specs.Sound.{occ, Sound}
 use Rattle.cells.specs.Have.{Item, item, Have, Lent, opt, all-nodes}
@@ -16,6 +16,19 @@ use Rattle.cells.specs.Have.{Item, item, Have, Lent, opt, all-nodes}
 pub record Kept (m m′ : List ℕ) : Type 0 where
   pub long : length m′ ≡ length m
   pub state : state m′ ≡ state m
+
+-- from m to m′ a heap was begun: nothing is held, and the state is 0
+pub record Begun (m m′ : List ℕ) : Type 0 where
+  pub long : length m′ ≡ length m
+  pub have : Have m′ []
+  pub state : state m′ ≡ replicate 112 0
+  pub same : m′ ≡ fresh m
+
+-- from m to m′ what is held or lent stays, whatever became of the state
+pub record Stays (m m′ : List ℕ) : Type 0 where
+  pub long : length m′ ≡ length m
+  pub have : (items : List Item) → Have m items → Have m′ items
+  pub lent : (q : ℕ) (v : Tree) (rest : List Item) → Have m rest → Lent m q v → Lent m′ q v
 
 -- p may be read: it is a node of a heap
 pub record Reading (m : List ℕ) (p : ℕ) : Type 0 where

@@ -175,5 +175,9 @@ pub fn open<W: Words>(words: &mut W, p: Ref) -> Node
     share(words, old.right);
     share(words, old.left);
     release(words, p);
-    Node { left: old.left, right: old.right, data }
+    Node {
+        left: old.left,
+        right: old.right,
+        data,
+    }
 }

@@ -19,14 +19,13 @@ loop-k-again g c =
     let k = c .loop-k .k in
     let w = drop 3 (cell m p) in
     let long : k < length w = omega (arith, length-drop 3 (cell m p), length-cell m p (c .pre .within)) in
-    let x : c .load-word .result ≡ getD w k 0 = c .load-word .ensures .value ∙ ap (λ z. at z p (3 + k)) (c .loop-k .inv .0) ∙ at-data m p k in
-    (
+    let x : c .load-word .result ≡ getD w k 0 = c .load-word .ensures .value ∙ ap (λ z. at z p (3 + k)) (c .loop-k .inv .0) ∙ at-data m p k in (
       c .load-word .ensures .same ∙ c .loop-k .inv .0,
       length-set (c .loop-k .data) k (c .load-word .result) ∙ c .loop-k .inv .1,
       take-more-set (c .loop-k .data) k (c .load-word .result) (omega (arith, c .loop-k .inv .1))
-      ∙ ap (λ z. z ++ c .load-word .result ∷ []) (c .loop-k .inv .2)
-      ∙ ap (λ z. take k w ++ z ∷ []) x
-      ∙ sym (take-more w k 0 long),
+          ∙ ap (λ z. z ++ c .load-word .result ∷ []) (c .loop-k .inv .2)
+          ∙ ap (λ z. take k w ++ z ∷ []) x
+          ∙ sym (take-more w k 0 long),
       omega (arith, c .load-word .ensures .touches, c .loop-k .inv .3),
     )
 

@@ -18,11 +18,10 @@ loop-k-again g c =
     let w = c .args .data in
     let p = c .args .p .0 in
     let k = c .loop-k .k in
-    let long : length w ≡ 13 = search needs in
-    (
+    let long : length w ≡ 13 = search needs in (
       c .store-word .ensures .same
-      ∙ ap (λ z. put z p (3 + k) (getD w k 0)) (c .loop-k .inv .0)
-      ∙ data-more m w p k (omega arith) (omega (arith, c .pre .within)),
+          ∙ ap (λ z. put z p (3 + k) (getD w k 0)) (c .loop-k .inv .0)
+          ∙ data-more m w p k (omega arith) (omega (arith, c .pre .within)),
       c .store-word .ensures .long ∙ c .loop-k .inv .1,
       omega (arith, c .store-word .ensures .touches, c .loop-k .inv .2),
     )
