@@ -3,14 +3,15 @@ use mathlib.Core.Path.{_≡_, refl, sym, ap, subst, _∙_}
 use mathlib.Core.List.{List, [], _∷_, _++_}
 use Prim.Native.Nat.{ℕ, _+_, _*_, _<_, _≤_}
 use native.Mathlib.Omega.{arith}
-use lib.ListN.{length, set, drop, replicate, length-append}
-use Rattle.std.proofs.shelf.Lists.{length-set, length-replicate, length-drop}
-use Rattle.cells.specs.Layout.{cell, at, state, taken, first-dead, fresh}
+use lib.ListN.{length, getD, set, take, drop, replicate, length-append}
+use Rattle.std.proofs.shelf.Lists.{length-set, length-replicate, length-drop, getD-take, take-set-le}
+use Rattle.cells.specs.Layout.{cell, at, state, roots, taken, first-dead, fresh}
 use Rattle.cells.specs.Tree.{Tree, none, node, Val}
 use Rattle.cells.specs.Sound.{occ, Known, Sound}
 use Rattle.cells.specs.Have.{Item, item, refs, Have, Lent}
 use Rattle.cells.specs.Steps.{Begun, Stays}
 use Rattle.cells.specs.Theorems.{Longer-row}
+use Rattle.cells.proofs.Lists.{take-set}
 use Rattle.cells.proofs.Rows.{at-cell, cell-state, cell-longer, state-longer}
 use Rattle.cells.proofs.Held.{Agree, have-agree, val-agree}
 
@@ -95,3 +96,17 @@ longer-row m items n h =
       cells = λ q lo within. cell-longer m zs q within;
     } in
     (have-agree m (m ++ zs) agree items h, state-longer m zs (omega arith))
+
+-- the references of the state are its first words
+pub root-word : (m : List ℕ) (k : ℕ) → k < 16 → getD (roots m) k 0 ≡ getD (state m) k 0
+root-word m k lt = getD-take 16 (state m) k 0 lt
+
+pub roots-set : (m m′ : List ℕ) (k x : ℕ) → k < 16 → state m′ ≡ set (state m) k x → roots m′ ≡ set (roots m) k x
+roots-set m m′ k x lt e = ap (take 16) e ∙ take-set 16 (state m) k x lt
+
+pub roots-same : (m m′ : List ℕ) (k x : ℕ) → 16 ≤ k → state m′ ≡ set (state m) k x → roots m′ ≡ roots m
+roots-same m m′ k x le e = ap (take 16) e ∙ take-set-le 16 (state m) k x le
+
+-- what is held is what the state names: the heap is stored
+pub stored : (m : List ℕ) (items : List Item) → refs items ≡ roots m → Have m items → Sound m (roots m)
+stored m items e h = subst (λ zs. Sound m zs) e (h .sound)

@@ -6,8 +6,12 @@ use native.Mathlib.Omega.{arith}
 use lib.ListN.{length, drop}
 use Rattle.cells.specs.Layout.{cell, at}
 use Rattle.cells.specs.Tree.{Tree, none, node, Val}
-use Rattle.cells.specs.Have.{Item, item, refs, Stand, Have, Lent}
-use Rattle.cells.specs.Steps.{Reading, Sharing, Shared, Holding, Released, Opening, Opened}
+use Rattle.std.specs.Options.{Cases}
+use Rattle.std.specs.declared.option.Option.{Option}
+use Rattle.std.specs.declared.option.Option.the-variants.{Some, None}
+use Rattle.cells.specs.declared.cell.Ref.{Ref}
+use Rattle.cells.specs.Have.{Item, item, refs, Stand, Have, Lent, opt}
+use Rattle.cells.specs.Steps.{Reading, Sharing, Shared, Holding, Released, Opening, Opened, Made, GaveUp}
 use Rattle.cells.proofs.Held.{reorder, held, lend, lend-left, lend-right}
 
 -- a node that may be read lies within the row
@@ -72,3 +76,9 @@ module _ (m : List ℕ) (p l r : ℕ) (is-l : l ≡ at m p 1) (is-r : r ≡ at m
             have = λ u v x rest h. gone .have (node u v x) (item l u ∷ (item r v ∷ rest)) (after-left u v x rest h);
             word = λ u v x rest h. is-w ∙ h .stand .0 .3;
           }
+
+-- what making a node, or giving up, leaves held
+pub made-have : (m m′ : List ℕ) (d : Option Ref) (l r : ℕ) (w : List ℕ) → Cases d (GaveUp m m′ l r) (λ x. Made m m′ (x .0) l r w)
+    → (u v : Tree) (rest : List Item) → Have m (item l u ∷ (item r v ∷ rest)) → Have m′ (opt d (node u v w) rest)
+made-have m m′ None l r w c u v rest h = c .dropped .have u v rest h
+made-have m m′ (Some d) l r w c u v rest h = c .have u v rest h

@@ -4,13 +4,10 @@ use mathlib.Core.Logic.{_≢_, _⊎_}
 use mathlib.Core.List.{List, [], _∷_}
 use Prim.Native.Nat.{ℕ, _+_, _*_, _<_, _≤_}
 use lib.ListN.{length, getD, replicate}
-use Rattle.std.specs.declared.option.Option.{Option}
-use Rattle.std.specs.declared.option.Option.the-variants.{None}
-use Rattle.cells.specs.declared.cell.Ref.{Ref}
 use Rattle.cells.specs.Layout.{at, state, fresh, taken, first-dead}
 use Rattle.cells.specs.Tree.{Tree, none, node, Val}
 use Rattle.cells.specs.Sound.{occ, Sound}
-use Rattle.cells.specs.Have.{Item, item, Have, Lent, opt, all-nodes}
+use Rattle.cells.specs.Have.{Item, item, Have, Lent, all-nodes}
 
 -- the row is as long as it was, and the state the same
 pub record Kept (m m′ : List ℕ) : Type 0 where
@@ -109,10 +106,10 @@ pub record Refused (m m′ : List ℕ) : Type 0 where
   pub same : m′ ≡ m
   pub full : Full m
 
--- from m to m′ the references l and r went into a new node, or were let go since there was no room
-pub record Built (m m′ : List ℕ) (d : Option Ref) (l r : ℕ) (w : List ℕ) : Type 0 where
-  pub have : (u v : Tree) (rest : List Item) → Have m (item l u ∷ (item r v ∷ rest)) → Have m′ (opt d (node u v w) rest)
-  pub full : d ≡ None → Full m
+-- there is no room, and from m to m′ the references l and r were let go
+pub record GaveUp (m m′ : List ℕ) (l r : ℕ) : Type 0 where
+  pub full : Full m
+  pub dropped : Dropped m m′ l r
 
 -- the node p is held, and few others are
 pub record Opening (m : List ℕ) (p : ℕ) : Type 0 where

@@ -3,7 +3,7 @@ ghost use mathlib.Core.Path.{_≡_};
 ghost use Prim.Native.Nat.{ℕ, _+_, _*_, _<_, _≤_};
 ghost use lib.ListN.{length};
 ghost use Rattle.cells.specs.Layout.{at, put, filled};
-ghost use Rattle.cells.specs.Steps.{Kept, Making, Made, Dropped, Reusing, Refused, Built, Opening, Opened};
+ghost use Rattle.cells.specs.Steps.{Kept, Making, Made, Dropped, Reusing, Refused, GaveUp, Opening, Opened};
 ghost use Rattle.std.specs.Options.{Cases as BySome};
 use crate::cell::COUNT;
 use crate::cell::FIRST_DEAD;
@@ -150,7 +150,7 @@ pub fn alloc<W: Words>(words: &mut W, left: Ref, right: Ref, data: Data) -> Opti
 /// A new node with these children, or none, and both let go, where there is no room.
 pub fn make<W: Words>(words: &mut W, left: Ref, right: Ref, data: Data) -> Option<Ref>
     requires { ⌜ Making (row (now words)) (left .0) (right .0) ⌝ }
-    ensures built { λ r. ⌜ Built (row (now (words .entry))) (row (now (words .exit))) r (left .0) (right .0) «data» ⌝ }
+    ensures made { λ r. ⌜ BySome r (GaveUp (row (now (words .entry))) (row (now (words .exit))) (left .0) (right .0)) (λ d. Made (row (now (words .entry))) (row (now (words .exit))) (d .0) (left .0) (right .0) «data») ⌝ }
     ensures kept { λ _. ⌜ Kept (row (now (words .entry))) (row (now (words .exit))) ⌝ }
     ensures touches { λ _. ⌜ touched (now (words .exit)) ≤ touched (now (words .entry)) + 41 ⌝ }
 {
