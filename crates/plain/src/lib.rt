@@ -2,6 +2,8 @@
 //! It is written from the description of the keys alone, so that it can disagree with the first.
 mod count;
 mod extents;
+mod keys;
 mod motion;
+mod pending;
 mod text;
 mod words;
