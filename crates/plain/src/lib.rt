@@ -1,7 +1,9 @@
 //! A second editor: the text in one piece, the screen drawn whole, and a terminal of its own.
 //! It is written from the description of the keys alone, so that it can disagree with the first.
+mod buffer;
 mod count;
 mod extents;
+mod fault;
 mod keys;
 mod motion;
 mod pending;
