@@ -62,4 +62,14 @@ impl Buffer {
         self.cursor = from;
         Ok(())
     }
+
+    // Takes another text for this one, which the other is then; the cursor is at the beginning.
+    pub fn exchange(&mut self, other: &mut Vec<u8>)
+        ensures text { λ _. ⌜ now (self .exit) .text ≡ now (other .entry) ⌝ }
+        ensures other { λ _. ⌜ now (other .exit) ≡ now (self .entry) .text ⌝ }
+        ensures cursor { λ _. ⌜ now (self .exit) .cursor ≡ 0 ⌝ }
+    {
+        self.cursor = 0;
+        std::mem::swap(&mut self.text, other);
+    }
 }

@@ -4,6 +4,7 @@ mod buffer;
 mod count;
 mod extents;
 mod fault;
+mod history;
 mod keys;
 mod motion;
 mod pending;
