@@ -9,4 +9,5 @@ mod keys;
 mod motion;
 mod pending;
 mod text;
+mod window;
 mod words;
