@@ -2,6 +2,7 @@
 //! It is written from the description of the keys alone, so that it can disagree with the first.
 mod buffer;
 mod count;
+mod editor;
 mod extents;
 mod fault;
 mod history;
