@@ -10,6 +10,7 @@ use crate::fault::FaultFromAlloc;
 use crate::fault::FaultFromRefused;
 use crate::history::History;
 use crate::history::UndoUnit;
+use crate::pending::Next;
 use crate::pending::Pending;
 use crate::text::clamp;
 use crate::text::column_of;
@@ -17,6 +18,7 @@ use crate::text::line_of;
 use crate::window::Size;
 use crate::window::Window;
 use std::alloc::Global;
+use std::mem;
 
 #[derive(Clone, Copy, PartialEq, Eq)]
 pub enum Mode {
@@ -109,5 +111,83 @@ impl Editor {
         }
         self.open.changed = from;
         self.buffer.replace(self.heap, from, to, new)
+    }
+
+    // Whether no key of a command was typed yet.
+    fn is_at_rest(&self) -> bool {
+        self.mode == Mode::Normal && self.pending.is_nothing()
+    }
+
+    // Does one key.
+    pub fn press(&mut self, key: u8) -> Result<(), Fault> {
+        match (self.mode, self.pending.next(key)) {
+            (Mode::Normal, Next::Repeat(count)) => self.repeat(count.times())?,
+            _ => self.type_key(key)?,
+        }
+        let text = self.buffer.bytes();
+        let at = self.buffer.cursor();
+        self.window = self.window.follow(line_of(text, at), column_of(text, at));
+        Ok(())
+    }
+
+    fn type_key(&mut self, key: u8) -> Result<(), Fault> {
+        if self.is_at_rest() {
+            self.open.keys.clear();
+            self.open.began = self.buffer.cursor();
+        }
+        self.open.keys.push(key)?;
+        match self.mode {
+            Mode::Inserting => self.insert_key(key)?,
+            Mode::Normal => self.command_key(key)?,
+        }
+        if self.is_at_rest() {
+            self.close_command()
+        } else {
+            Ok(())
+        }
+    }
+
+    fn command_key(&mut self, key: u8) -> Result<(), Fault> {
+        let next = self.pending.next(key);
+        self.pending = Pending::nothing();
+        match next {
+            Next::More(pending) => {
+                self.pending = pending;
+                Ok(())
+            }
+            Next::Run(command) => self.run(command),
+            Next::Repeat(_) | Next::Cancel => Ok(()),
+        }
+    }
+
+    // A command that changed something can be undone and repeated.
+    fn close_command(&mut self) -> Result<(), Fault> {
+        if let Some(before) = self.open.before.take() {
+            self.history
+                .record(UndoUnit::new(before, self.open.began, self.open.changed))?;
+            self.last_keys = mem::replace(&mut self.open.keys, Vec::new(self.heap));
+        }
+        Ok(())
+    }
+
+    fn repeat(&mut self, times: usize) -> Result<(), Fault> {
+        self.pending = Pending::nothing();
+        let keys = mem::replace(&mut self.last_keys, Vec::new(self.heap));
+        let result = self.replay(keys.as_slice(), times);
+        self.last_keys = keys;
+        result
+    }
+
+    // Types keys so often, each time until the command has ended.
+    fn replay(&mut self, keys: &[u8], times: usize) -> Result<(), Fault> {
+        'repetitions: for _ in 0..times {
+            for key in keys {
+                self.type_key(*key)?;
+                if self.is_at_rest() {
+                    continue 'repetitions;
+                }
+            }
+        }
+        Ok(())
     }
 }

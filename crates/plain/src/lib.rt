@@ -1,6 +1,7 @@
 //! A second editor: the text in one piece, the screen drawn whole, and a terminal of its own.
 //! It is written from the description of the keys alone, so that it can disagree with the first.
 mod buffer;
+mod commands;
 mod count;
 mod editor;
 mod extents;

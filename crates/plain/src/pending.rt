@@ -41,13 +41,13 @@ pub enum Command {
     Insert(Opening),
     Undo(Count),
     Redo(Count),
-    Repeat(Count),
 }
 
 #[derive(Clone, Copy)]
 pub enum Next {
     More(Pending),
     Run(Command),
+    Repeat(Count),
     Cancel,
 }
 
@@ -99,7 +99,7 @@ fn after_count(count: Count, key: Key) -> Next {
         Key::Insert(opening) => Next::Run(Command::Insert(opening)),
         Key::Undo => Next::Run(Command::Undo(count)),
         Key::Redo => Next::Run(Command::Redo(count)),
-        Key::Repeat => Next::Run(Command::Repeat(count)),
+        Key::Repeat => Next::Repeat(count),
         Key::Cancel => Next::Cancel,
     }
 }

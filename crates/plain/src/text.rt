@@ -122,3 +122,17 @@ pub fn in_column(text: &[u8], start: usize, column: usize) -> usize
     let width = line_end(text, start) - start;
     clamp(text, start + column.min(width))
 }
+
+// The first place from here on that has no blank or tab.
+pub fn past_blanks(text: &[u8], from: usize) -> usize
+    requires { ⌜ from ≤ length (now text) ⌝ }
+    ensures behind { λ r. ⌜ from ≤ r ⌝ }
+    ensures within { λ r. ⌜ r ≤ length (now (text .entry)) ⌝ }
+{
+    for i in from..text.len() {
+        if text[i] != b' ' && text[i] != b'\t' {
+            return i;
+        }
+    }
+    text.len()
+}
