@@ -12,6 +12,16 @@ mod keys;
 mod motion;
 mod operators;
 mod pending;
+mod screen;
 mod text;
 mod window;
 mod words;
+
+pub use editor::Editor;
+pub use fault::Fault;
+pub use fault::FaultFromAlloc;
+pub use fault::FaultFromRefused;
+pub use screen::Position;
+pub use screen::PositionDebug;
+pub use screen::PositionPartialEq;
+pub use window::Size;
