@@ -1,23 +1,23 @@
 //! What each command does. One that can't be done returns with nothing changed.
 ghost use Prim.Native.Nat.{_≤_};
-use crate::count::Count;
 use crate::editor::Editor;
-use crate::extents::Extent;
-use crate::extents::Shape;
-use crate::extents::lines_from;
-use crate::extents::taken_by;
 use crate::fault::Fault;
 use crate::fault::FaultFromAlloc;
 use crate::fault::FaultFromRefused;
-use crate::keys::Operator;
-use crate::keys::Side;
-use crate::motion::Motion;
-use crate::motion::destination;
-use crate::pending::Command;
-use crate::text::first_nonblank;
-use crate::text::line_end;
-use crate::text::line_start;
-use crate::text::past_blanks;
+use plain_keys::Command;
+use plain_keys::Count;
+use plain_keys::Extent;
+use plain_keys::Motion;
+use plain_keys::Operator;
+use plain_keys::Shape;
+use plain_keys::Side;
+use plain_keys::destination;
+use plain_keys::lines_from;
+use plain_keys::taken_by;
+use plain_lines::first_nonblank;
+use plain_lines::line_end;
+use plain_lines::line_start;
+use plain_lines::past_blanks;
 use std::alloc::Global;
 
 // Bytes, so many times.

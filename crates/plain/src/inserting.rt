@@ -2,11 +2,11 @@
 use crate::editor::Editor;
 use crate::editor::Mode;
 use crate::fault::Fault;
-use crate::keys::Opening;
-use crate::text::column_of;
-use crate::text::first_nonblank;
-use crate::text::line_end;
-use crate::text::line_start;
+use plain_keys::Opening;
+use plain_lines::column_of;
+use plain_lines::first_nonblank;
+use plain_lines::line_end;
+use plain_lines::line_start;
 
 const ESCAPE: u8 = 0x1b;
 

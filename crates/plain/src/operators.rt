@@ -4,12 +4,12 @@ ghost use Prim.Native.Nat.{_≤_};
 ghost use Rattle.std.specs.Of.Vec.{vec-len};
 use crate::editor::Editor;
 use crate::editor::Register;
-use crate::extents::Extent;
-use crate::extents::Shape;
 use crate::fault::Fault;
 use crate::fault::FaultFromAlloc;
-use crate::keys::Operator;
-use crate::text::first_nonblank;
+use plain_keys::Extent;
+use plain_keys::Operator;
+use plain_keys::Shape;
+use plain_lines::first_nonblank;
 
 impl Editor {
     pub(crate) fn operate(&mut self, operator: Operator, extent: Extent) -> Result<(), Fault>

@@ -8,11 +8,11 @@ use crate::editor::Mode;
 use crate::fault::Fault;
 use crate::fault::FaultFromAlloc;
 use crate::fault::FaultFromRefused;
-use crate::text::column_of;
-use crate::text::line_end;
-use crate::text::line_of;
-use crate::text::nth_line;
-use crate::window::Size;
+use plain_lines::Size;
+use plain_lines::column_of;
+use plain_lines::line_end;
+use plain_lines::line_of;
+use plain_lines::nth_line;
 
 // A row and a column of the screen, counted from 0.
 #[derive(Clone, Copy, Debug, PartialEq, Eq)]

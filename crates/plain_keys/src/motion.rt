@@ -4,17 +4,17 @@ ghost use Prim.Native.Nat.{_+_, _<_, _≤_};
 ghost use lib.ListN.{length};
 ghost use Rattle.std.specs.Options.{Cases as BySome};
 use crate::count::Count;
-use crate::text::clamp;
-use crate::text::column_of;
-use crate::text::first_nonblank;
-use crate::text::in_column;
-use crate::text::line_end;
-use crate::text::line_of;
-use crate::text::line_start;
-use crate::text::nth_line;
-use crate::words::word_ends_on;
-use crate::words::words_back;
-use crate::words::words_on;
+use plain_lines::clamp;
+use plain_lines::column_of;
+use plain_lines::first_nonblank;
+use plain_lines::in_column;
+use plain_lines::line_end;
+use plain_lines::line_of;
+use plain_lines::line_start;
+use plain_lines::nth_line;
+use plain_lines::word_ends_on;
+use plain_lines::words_back;
+use plain_lines::words_on;
 
 #[derive(Clone, Copy)]
 pub enum Motion {

@@ -9,9 +9,9 @@ use crate::motion::elsewhere;
 use crate::motion::end_below;
 use crate::motion::find;
 use crate::motion::word_end;
-use crate::text::line_end;
-use crate::text::line_start;
-use crate::words::words_on;
+use plain_lines::line_end;
+use plain_lines::line_start;
+use plain_lines::words_on;
 
 #[derive(Clone, Copy)]
 pub enum Shape {
