@@ -2,7 +2,7 @@
 ghost use mathlib.Core.Path.{_≡_};
 ghost use Prim.Native.Nat.{_+_, _<_, _≤_};
 ghost use lib.ListN.{length};
-ghost use Rattle.std.specs.Of.Vec.{vec-len};
+ghost use Rattle.std.specs.Of.Vec.{vec-items, vec-len};
 use crate::buffer::Buffer;
 use crate::fault::Fault;
 use crate::fault::FaultFromAlloc;
@@ -60,7 +60,11 @@ pub struct Editor {
 }
 
 impl Editor {
-    pub fn new(heap: Global, text: Vec<u8>, size: Size) -> Editor {
+    pub fn new(heap: Global, text: Vec<u8>, size: Size) -> Editor
+        ensures text { λ r. ⌜ vec-items (r .buffer .text) ≡ vec-items text ⌝ }
+        ensures cursor { λ r. ⌜ r .buffer .cursor ≡ 0 ⌝ }
+        ensures size { λ r. ⌜ r .window .size ≡ size ⌝ }
+    {
         Editor {
             heap,
             buffer: Buffer::new(text),
@@ -83,11 +87,16 @@ impl Editor {
         }
     }
 
-    pub fn text(&self) -> &[u8] {
+    pub fn text(&self) -> &[u8]
+        ensures { λ r. ⌜ now r ≡ vec-items (now (self .entry) .buffer .text) ⌝ }
+    {
         self.buffer.bytes()
     }
 
-    pub fn cursor(&self) -> usize {
+    pub fn cursor(&self) -> usize
+        ensures value { λ r. ⌜ r ≡ now (self .entry) .buffer .cursor ⌝ }
+        ensures within { λ r. ⌜ r ≤ length (vec-items (now (self .entry) .buffer .text)) ⌝ }
+    {
         self.buffer.cursor()
     }
 

@@ -14,6 +14,8 @@ use plain_lines::line_end;
 use plain_lines::line_of;
 use plain_lines::nth_line;
 
+const CANCEL: u8 = 0x18;
+
 // A row and a column of the screen, counted from 0.
 #[derive(Clone, Copy, Debug, PartialEq, Eq)]
 pub struct Position {
@@ -32,16 +34,20 @@ fn shown(byte: u8) -> u8
 }
 
 impl Editor {
-    pub fn size(&self) -> Size {
+    pub fn size(&self) -> Size
+        ensures { λ r. ⌜ r ≡ now (self .entry) .window .size ⌝ }
+    {
         self.window.size
     }
 
-    pub fn screen_cursor(&self) -> Position {
-        let text = self.buffer.bytes();
-        let at = self.buffer.cursor();
-        let row = line_of(text, at).saturating_sub(self.window.top);
-        let column = column_of(text, at).saturating_sub(self.window.left);
-        Position { row, column }
+    pub fn screen_cursor(&self) -> Position
+        ensures row { λ r. ⌜ r .row + 1 < now (self .entry) .window .size .rows ⌝ }
+        ensures column { λ r. ⌜ r .column < now (self .entry) .window .size .columns ⌝ }
+    {
+        Position {
+            row: self.window.cursor_row,
+            column: self.window.cursor_column,
+        }
     }
 
     // A row of the screen, as wide as it.
@@ -87,5 +93,27 @@ impl Editor {
         let column = column_of(text, at).saturating_add(1);
         let status = format!(self.heap, "{mode} {line},{column}")?;
         Ok(Vec::from_slice(self.heap, status.as_bytes())?)
+    }
+
+    // Bytes that make any terminal of this size show the screen: a byte that ends a sequence in
+    // which the terminal may be, every row, and the cursor.
+    pub fn painting(&self) -> Result<Vec<u8>, Fault> {
+        let mut out = Vec::new(self.heap);
+        out.push(CANCEL)?;
+        for row in 0..self.window.size.rows() {
+            self.paint_move(&mut out, Position { row, column: 0 })?;
+            out.extend_from_slice(self.row(row)?.as_slice())?;
+        }
+        self.paint_move(&mut out, self.screen_cursor())?;
+        Ok(out)
+    }
+
+    // A terminal counts from 1.
+    fn paint_move(&self, out: &mut Vec<u8>, position: Position) -> Result<(), Fault> {
+        let row = position.row.saturating_add(1);
+        let column = position.column.saturating_add(1);
+        let sequence = format!(self.heap, "\x1b[{row};{column}H")?;
+        out.extend_from_slice(sequence.as_bytes())?;
+        Ok(())
     }
 }

@@ -59,33 +59,47 @@ fn scrolled(first: usize, shown: usize, at: usize) -> usize
     }
 }
 
+// The first line and column that are seen, and where the cursor is among those that are.
 #[derive(Clone, Copy)]
 pub struct Window {
     pub size: Size,
     pub top: usize,
     pub left: usize,
+    pub cursor_row: usize,
+    pub cursor_column: usize,
+    ghost in_sight: { («cursor_row» + 1 < size .rows) × («cursor_column» < size .columns) },
 }
 
 impl Window {
     pub fn new(size: Size) -> Window
-        ensures top { λ r. ⌜ r .top ≡ 0 ⌝ }
-        ensures left { λ r. ⌜ r .left ≡ 0 ⌝ }
+        ensures first { λ r. ⌜ (r .top ≡ 0) × (r .left ≡ 0) ⌝ }
+        ensures cursor { λ r. ⌜ (r .«cursor_row» ≡ 0) × (r .«cursor_column» ≡ 0) ⌝ }
+        ensures size { λ r. ⌜ r .size ≡ size ⌝ }
     {
         Window {
             size,
             top: 0,
             left: 0,
+            cursor_row: 0,
+            cursor_column: 0,
         }
     }
 
     // Moves as little as it must to show a line and a column.
     pub fn follow(self, line: usize, column: usize) -> Window
-        ensures top { λ r. ⌜ (r .top ≤ line) × (line + 1 < r .top + r .size .rows) ⌝ }
-        ensures left { λ r. ⌜ (r .left ≤ column) × (column < r .left + r .size .columns) ⌝ }
+        ensures row { λ r. ⌜ r .top + r .«cursor_row» ≡ line ⌝ }
+        ensures column { λ r. ⌜ r .left + r .«cursor_column» ≡ column ⌝ }
+        ensures size { λ r. ⌜ r .size ≡ self .size ⌝ }
     {
         let size = self.size;
         let top = scrolled(self.top, size.rows() - 1, line);
         let left = scrolled(self.left, size.columns(), column);
-        Window { size, top, left }
+        Window {
+            size,
+            top,
+            left,
+            cursor_row: line - top,
+            cursor_column: column - left,
+        }
     }
 }
