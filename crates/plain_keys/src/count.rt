@@ -1,6 +1,7 @@
 //! The count of a command.
 ghost use Prim.Native.Nat.{_≤_};
 ghost use mathlib.Core.Path.{_≡_};
+ghost use Rattle.std.specs.Options.{Cases as BySome};
 ghost use Rattle.std.specs.declared.option.Option.the-variants.{Some, None};
 
 // The digits of one count stop here.
@@ -21,7 +22,9 @@ impl Count {
         self.0.is_some()
     }
 
-    pub fn with_digit(self, digit: u8) -> Count {
+    pub fn with_digit(self, digit: u8) -> Count
+        ensures { λ r. ⌜ BySome (r .0) ⊥ (λ n. n ≤ 9999) ⌝ }
+    {
         let tens = self.0.unwrap_or(0).saturating_mul(10);
         Count(Some(tens.saturating_add(digit as usize).min(MOST)))
     }

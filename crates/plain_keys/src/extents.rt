@@ -67,7 +67,8 @@ fn reach(text: &[u8], at: usize, motion: Motion, count: Count) -> Option<usize>
 // The lines of two places and those between.
 fn lines_between(text: &[u8], one: usize, other: usize) -> Extent
     requires { ⌜ one ≤ length (now text) ⌝ ∗ ⌜ other ≤ length (now text) ⌝ }
-    ensures ordered { λ r. ⌜ r .from ≤ r .to ⌝ }
+    ensures before { λ r. ⌜ (r .from ≤ one) × (r .from ≤ other) ⌝ }
+    ensures behind { λ r. ⌜ (one ≤ r .to) × (other ≤ r .to) ⌝ }
     ensures within { λ r. ⌜ r .to ≤ length (now (text .entry)) ⌝ }
 {
     let from = line_start(text, one.min(other));
@@ -82,7 +83,7 @@ fn lines_between(text: &[u8], one: usize, other: usize) -> Extent
 // What an operator before a motion takes, perhaps nothing; none where the motion can't be done.
 pub fn taken_by(text: &[u8], at: usize, motion: Motion, count: Count) -> Option<Extent>
     requires { ⌜ at ≤ length (now text) ⌝ }
-    ensures { λ r. ⌜ BySome r (Unit {0}) (λ e. (e .from ≤ e .to) × (e .to ≤ length (now (text .entry)))) ⌝ }
+    ensures { λ r. ⌜ BySome r (Unit {0}) (λ e. (e .from ≤ at) × (at ≤ e .to) × (e .to ≤ length (now (text .entry)))) ⌝ }
 {
     match motion {
         Motion::Down | Motion::Up | Motion::ToLine | Motion::ToFirstLine => {
@@ -103,7 +104,7 @@ pub fn taken_by(text: &[u8], at: usize, motion: Motion, count: Count) -> Option<
 // As many lines from this one on; none where there are fewer.
 pub fn lines_from(text: &[u8], at: usize, count: Count) -> Option<Extent>
     requires { ⌜ at ≤ length (now text) ⌝ }
-    ensures { λ r. ⌜ BySome r (Unit {0}) (λ e. (e .from ≤ e .to) × (e .to ≤ length (now (text .entry)))) ⌝ }
+    ensures { λ r. ⌜ BySome r (Unit {0}) (λ e. (e .from ≤ at) × (at ≤ e .to) × (e .to ≤ length (now (text .entry)))) ⌝ }
 {
     let end = end_below(text, at, count.times())?;
     Some(lines_between(text, at, end))
