@@ -62,7 +62,8 @@ impl Editor {
         Ok(())
     }
 
-    // With the last line the line end before the first one goes.
+    // With the last line the line end before the first one goes. A text with no byte has one line,
+    // an empty one, which is kept like any other.
     fn delete_lines(&mut self, extent: Extent) -> Result<(), Fault>
         requires { ⌜ extent .from ≤ extent .to ⌝ ∗ ⌜ extent .to ≤ vec-len (now self .buffer .text) ⌝ }
     {
@@ -73,13 +74,13 @@ impl Editor {
         } else if from > 0 {
             from -= 1;
         }
+        self.keep(extent)?;
         if from < to {
-            self.keep(extent)?;
             self.replace(from, to, b"")?;
-            let text = self.buffer.bytes();
-            let place = first_nonblank(text, from.min(text.len()));
-            self.stand(place);
         }
+        let text = self.buffer.bytes();
+        let place = first_nonblank(text, from.min(text.len()));
+        self.stand(place);
         Ok(())
     }
 

@@ -9,6 +9,7 @@ use crate::motion::elsewhere;
 use crate::motion::end_below;
 use crate::motion::find;
 use crate::motion::word_end;
+use plain_lines::clamp;
 use plain_lines::line_end;
 use plain_lines::line_start;
 use plain_lines::words_on;
@@ -42,6 +43,7 @@ fn word_reach(text: &[u8], at: usize, count: usize) -> Option<usize>
 }
 
 // Up to where a motion by bytes takes them: behind the last one, of those that take it along.
+// A line end isn't taken along: `e` at the text's end stops before the last one.
 fn reach(text: &[u8], at: usize, motion: Motion, count: Count) -> Option<usize>
     requires { ⌜ at ≤ length (now text) ⌝ }
     ensures { λ r. ⌜ BySome r (Unit {0}) (λ p. p ≤ length (now (text .entry))) ⌝ }
@@ -51,8 +53,9 @@ fn reach(text: &[u8], at: usize, motion: Motion, count: Count) -> Option<usize>
         Motion::Right => elsewhere(at, at.saturating_add(times).min(line_end(text, at))),
         Motion::WordForward => word_reach(text, at, times),
         Motion::WordEnd => {
-            let last = word_end(text, at, times)?;
-            Some(last + 1)
+            let end = word_end(text, at, times)?;
+            let last = clamp(text, end);
+            Some(last.saturating_add(1).min(line_end(text, last)))
         }
         Motion::Find(byte) => {
             let found = find(text, at, byte, times)?;
