@@ -67,6 +67,16 @@ sound-none m xs s =
       ranked = s .ranked;
     }
 
+-- none may be held more often or less
+pub have-none : (m : List ℕ) (xs : List Item) → Have m xs → Have m (item 0 none ∷ xs)
+have-none m xs h = record { sound = sound-some m (refs xs) (h .sound); stand = (refl, h .stand) }
+
+pub none-have : (m : List ℕ) (xs : List Item) → Have m (item 0 none ∷ xs) → Have m xs
+none-have m xs h = record { sound = sound-none m (refs xs) (h .sound); stand = h .stand .1 }
+
+pub none-second : (m : List ℕ) (x : Item) (xs : List Item) → Have m (x ∷ xs) → Have m (x ∷ (item 0 none ∷ xs))
+none-second m x xs h = reorder m (item 0 none ∷ (x ∷ xs)) (x ∷ (item 0 none ∷ xs)) (λ p. omega arith) (λ s. (s .1 .0, (s .0, s .1 .1))) (have-none m (x ∷ xs) h)
+
 -- what is known of a cell that is held
 pub record Held (m : List ℕ) (p n : ℕ) : Type 0 where
   pub low : 8 ≤ p
