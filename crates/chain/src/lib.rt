@@ -132,6 +132,18 @@ mod tests {
     }
 
     #[test]
+    fn stays_in_a_longer_row(rt: LibcRuntime) -> Result<(), Fail> {
+        let mut words = HeapWords::new(rt.alloc(), 160)?;
+        new(&mut words);
+        let Some(two) = pair(&mut words, 1) else {
+            return Err(Fail::new("there was no room for two cells"));
+        };
+        words.grow(176)?;
+        check_eq(number_below(&mut words, two), 1)?;
+        check(make(&mut words, two, NONE, numbered(3)).is_some()).note("there is room for a third")
+    }
+
+    #[test]
     fn takes_all_back(rt: LibcRuntime) -> Result<(), Fail> {
         let mut words = HeapWords::new(rt.alloc(), 1600128)?;
         let taken = take_back(&mut words, 200000);
