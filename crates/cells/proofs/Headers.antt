@@ -48,7 +48,7 @@ begun m long =
             right = λ q lo hi. absurd (omega arith);
             counts = λ p lo hi. absurd (omega arith);
           };
-          buried = record { deads = λ p lo hi. absurd (omega arith); inside = λ p h. absurd (omega arith); chain = fresh-dead m };
+          listed = record { deads = λ p lo hi. absurd (omega arith); inside = λ p h. absurd (omega arith); chain = fresh-dead m };
           ranked = record { rank = λ q. 0; left = λ q lo hi o. absurd (omega arith); right = λ q lo hi o. absurd (omega arith) };
         };
         stand = tt;
