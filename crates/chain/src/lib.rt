@@ -4,7 +4,7 @@ ghost use mathlib.Core.List.{List, [], _∷_};
 ghost use Prim.Native.Nat.{ℕ, _<_, _≤_};
 ghost use lib.ListN.{length};
 ghost use Rattle.cells.specs.Have.{Have, Item, item, opt};
-ghost use Rattle.chain.specs.Chains.{Built, Pair, paired, numbered as «numbered-list»};
+ghost use Rattle.chain.specs.Chains.{Built, Pair, Stored, paired, numbered as «numbered-list»};
 use cells::Data;
 use cells::NONE;
 use cells::Ref;
@@ -13,7 +13,10 @@ use cells::data_word;
 use cells::left;
 use cells::make;
 use cells::new;
+use cells::open;
 use cells::release;
+use cells::set_root;
+use cells::share;
 use words::Words;
 
 /// A list of cells, and how many it has.
@@ -100,6 +103,19 @@ pub fn number_below<W: Words>(words: &mut W, p: Ref) -> u32
     data_word(words, below, 0)
 }
 
+/// Stores the pair `p` as the first reference of the state, and gives the number of its upper cell.
+pub fn store<W: Words>(words: &mut W, p: Ref) -> u32
+    requires { ⌜ Pair (row (now words)) (p .0) ⌝ }
+    ensures { λ r. ⌜ Stored (row (now (words .entry))) (row (now (words .exit))) (p .0) r ⌝ }
+{
+    share(words, p);
+    set_root(words, 0, p);
+    let node = open(words, p);
+    release(words, node.left);
+    release(words, node.right);
+    node.data[0]
+}
+
 /// Whether another cell is refused, and the row then as before.
 pub fn refuses<W: Words>(words: &mut W) -> bool
     requires { ⌜ ((items : List Item) × Have (row (now words)) items) ⌝ }
@@ -112,6 +128,7 @@ pub fn refuses<W: Words>(words: &mut W) -> bool
 #[cfg(test)]
 mod tests {
     use super::*;
+    use cells::root;
     use std::test::*;
     use words::HeapWords;
     use words::HeapWordsWords;
@@ -141,6 +158,18 @@ mod tests {
         words.grow(176)?;
         check_eq(number_below(&mut words, two), 1)?;
         check(make(&mut words, two, NONE, numbered(3)).is_some()).note("there is room for a third")
+    }
+
+    #[test]
+    fn finds_what_it_stored(rt: LibcRuntime) -> Result<(), Fail> {
+        let mut words = HeapWords::new(rt.alloc(), 160)?;
+        new(&mut words);
+        let Some(two) = pair(&mut words, 5) else {
+            return Err(Fail::new("there was no room for two cells"));
+        };
+        check_eq(store(&mut words, two), 6)?;
+        let found = root(&mut words, 0);
+        check_eq(number_below(&mut words, found), 5)
     }
 
     #[test]
