@@ -10,7 +10,7 @@ use lib.ListN.{length, drop}
 use Rattle.std.proofs.shelf.Tests.{cases-eq, cond-true, cond-false, eq-eqb, ne-eqb}
 use Rattle.cells.specs.Layout.{cell, at, taken, first-dead}
 use Rattle.cells.specs.Tree.{Tree, none, node, Val}
-use Rattle.cells.specs.Sound.{hit, occ, ins, Chain, Known, Counted, Buried, Ranked, Sound}
+use Rattle.cells.specs.Sound.{hit, occ, ins, Chain, Known, Counted, DeadList, Ranked, Sound}
 use Rattle.cells.proofs.Rows.{at-cell}
 use Rattle.cells.proofs.Tallies.{hit-eq, hit-ne, hit-le, ins-same, ins-change, ins-one, ins-none, ins-more, chain-move}
 
@@ -47,7 +47,7 @@ sound-same m xs ys same s =
         right = a .right;
         counts = λ p lo hi. omega (arith, a .counts p lo hi, same p);
       };
-      buried = s .buried;
+      listed = s .listed;
       ranked = s .ranked;
     }
 
@@ -80,12 +80,12 @@ module _ (m m′ : List ℕ) (n d : ℕ) (near : Near m m′ d) (lo : 8 ≤ d) (
             );
       }
 
-  links : (dead : List ℕ) → Buried m n dead → occ d dead ≡ 0 → (q : ℕ) → 0 < occ q dead → at m′ q 3 ≡ at m q 3
+  links : (dead : List ℕ) → DeadList m n dead → occ d dead ≡ 0 → (q : ℕ) → 0 < occ q dead → at m′ q 3 ≡ at m q 3
   links dead b out q h = at-cell m m′ q (near .others q (b .inside q h .0) (not-held d dead out q h)) 3
 
   -- d was alive and is
-  pub buried-live : (dead : List ℕ) → Buried m n dead → first-dead m′ ≡ first-dead m → 1 ≤ at m d 0 → 1 ≤ at m′ d 0 → Buried m′ n dead
-  buried-live dead b head was is =
+  pub listed-live : (dead : List ℕ) → DeadList m n dead → first-dead m′ ≡ first-dead m → 1 ≤ at m d 0 → 1 ≤ at m′ d 0 → DeadList m′ n dead
+  listed-live dead b head was is =
       let out : occ d dead ≡ 0 = omega (arith, b .deads d lo hi, hit-ne (at m d 0) 0 (omega arith)) in
       record {
         deads = λ q l h. elim (cases-eq q d) [
@@ -97,8 +97,8 @@ module _ (m m′ : List ℕ) (n d : ℕ) (near : Near m m′ d) (lo : 8 ≤ d) (
       }
 
   -- d was alive and goes before the dead
-  pub buried-more : (dead : List ℕ) → Buried m n dead → first-dead m′ ≡ d → at m′ d 3 ≡ first-dead m → 1 ≤ at m d 0 → at m′ d 0 ≡ 0 → Buried m′ n (d ∷ dead)
-  buried-more dead b head link was is =
+  pub listed-more : (dead : List ℕ) → DeadList m n dead → first-dead m′ ≡ d → at m′ d 3 ≡ first-dead m → 1 ≤ at m d 0 → at m′ d 0 ≡ 0 → DeadList m′ n (d ∷ dead)
+  listed-more dead b head link was is =
       let out : occ d dead ≡ 0 = omega (arith, b .deads d lo hi, hit-ne (at m d 0) 0 (omega arith)) in
       record {
         deads = λ q l h. elim (cases-eq q d) [
@@ -113,8 +113,8 @@ module _ (m m′ : List ℕ) (n d : ℕ) (near : Near m m′ d) (lo : 8 ≤ d) (
       }
 
   -- d was the first dead one and is alive
-  pub buried-less : (dead : List ℕ) → Buried m n (d ∷ dead) → first-dead m′ ≡ at m d 3 → 1 ≤ at m′ d 0 → Buried m′ n dead
-  buried-less dead b head is =
+  pub listed-less : (dead : List ℕ) → DeadList m n (d ∷ dead) → first-dead m′ ≡ at m d 3 → 1 ≤ at m′ d 0 → DeadList m′ n dead
+  listed-less dead b head is =
       let self = hit-eq d d refl in
       let out : occ d dead ≡ 0 = omega (arith, b .deads d lo hi, hit-le (at m d 0) 0) in
       record {

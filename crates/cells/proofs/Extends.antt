@@ -8,7 +8,7 @@ use lib.ListN.{length}
 use Rattle.std.proofs.shelf.Tests.{cases-eq}
 use Rattle.cells.specs.Layout.{cell, at, put, filled, state, taken, first-dead}
 use Rattle.cells.specs.Tree.{Tree, none, node, Val}
-use Rattle.cells.specs.Sound.{hit, occ, ins, Chain, Known, Counted, Buried, Ranked, Sound}
+use Rattle.cells.specs.Sound.{hit, occ, ins, Chain, Known, Counted, DeadList, Ranked, Sound}
 use Rattle.cells.specs.Have.{Item, item, refs, Stand, Have}
 use Rattle.cells.specs.Steps.{Kept, Made}
 use Rattle.cells.proofs.Rows.{length-put, at-cell, cell-other, at-put, at-other, length-filled, cell-filled, cell-filled-other, state-filled}
@@ -83,8 +83,8 @@ module _ (m m′ xs : List ℕ) (n l r : ℕ) (w : List ℕ) (c : Counted m (l �
             ];
       }
 
-  buried-past : (dead : List ℕ) → Buried m n dead → Buried m′ (n + 1) dead
-  buried-past dead b =
+  listed-past : (dead : List ℕ) → DeadList m n dead → DeadList m′ (n + 1) dead
+  listed-past dead b =
       let out : occ (8 + n) dead ≡ 0 = elim (cases-eq (occ (8 + n) dead) 0) [ inl e ↦ e | inr ne ↦ absurd (omega (arith, b .inside (8 + n) (omega arith) .1)) ] in
       record {
         deads = λ q lo hi. elim (cases-eq q (8 + n)) [
@@ -98,13 +98,13 @@ module _ (m m′ xs : List ℕ) (n l r : ℕ) (w : List ℕ) (c : Counted m (l �
             (λ q h. at-cell m m′ q (others q (b .inside q h .0) (not-held (8 + n) dead out q h)) 3));
       }
 
-  more-sound : (dead : List ℕ) → Buried m n dead → Ranked m n → Sound m′ ((8 + n) ∷ xs)
+  more-sound : (dead : List ℕ) → DeadList m n dead → Ranked m n → Sound m′ ((8 + n) ∷ xs)
   more-sound dead b t =
       record {
         cells = n + 1;
         dead = dead;
         counted = counted-more;
-        buried = buried-past dead b;
+        listed = listed-past dead b;
         ranked =
             ranked-fill m m′ n (n + 1) (8 + n) t (past-apart m (l ∷ (r ∷ xs)) n c)
             (λ y. omega (arith, known-left (omega (arith, is .left)) .1, is .left)) (λ y. omega (arith, known-right (omega (arith, is .right)) .1, is .right))
@@ -147,7 +147,7 @@ module _ (m : List ℕ) (d l r : ℕ) (w : List ℕ) (thirteen : length w ≡ 13
             let stays = keep m m′ (refs rest) n l r w c top same head others wr (omega arith) (omega arith) in
             subst (λ z. Have m′ (item z (node u v w) ∷ rest)) (sym at-d)
             (record {
-              sound = more-sound m m′ (refs rest) n l r w c top same head others wr (omega arith) (omega arith) (h .sound .dead) (h .sound .buried) (h .sound .ranked);
+              sound = more-sound m m′ (refs rest) n l r w c top same head others wr (omega arith) (omega arith) (h .sound .dead) (h .sound .listed) (h .sound .ranked);
               stand = (
                 (
                   omega arith,

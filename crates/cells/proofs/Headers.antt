@@ -5,6 +5,7 @@ use Prim.Native.Nat.{ℕ, _+_, _*_, _<_, _≤_}
 use native.Mathlib.Omega.{arith}
 use lib.ListN.{length, getD, set, take, drop, replicate, length-append}
 use Rattle.std.proofs.shelf.Lists.{length-set, length-replicate, length-drop, getD-take, take-set-le}
+use Rattle.words.specs.Padded.{zeros}
 use Rattle.cells.specs.Layout.{cell, at, state, roots, taken, first-dead, fresh}
 use Rattle.cells.specs.Tree.{Tree, none, node, Val}
 use Rattle.cells.specs.Sound.{occ, Known, Sound}
@@ -47,7 +48,7 @@ begun m long =
             right = λ q lo hi. absurd (omega arith);
             counts = λ p lo hi. absurd (omega arith);
           };
-          buried = record { deads = λ p lo hi. absurd (omega arith); inside = λ p h. absurd (omega arith); chain = fresh-dead m };
+          listed = record { deads = λ p lo hi. absurd (omega arith); inside = λ p h. absurd (omega arith); chain = fresh-dead m };
           ranked = record { rank = λ q. 0; left = λ q lo hi o. absurd (omega arith); right = λ q lo hi o. absurd (omega arith) };
         };
         stand = tt;
@@ -85,7 +86,7 @@ stays m i x lt =
 
 pub longer-row : Longer-row
 longer-row m items n h =
-    let zs : List ℕ = replicate n 0 in
+    let zs : List ℕ = zeros n in
     let fits = h .sound .counted .fits in
     let header = cell-longer m zs 0 (omega arith) in
     let agree : Agree m (m ++ zs) =

@@ -8,7 +8,7 @@ use lib.ListN.{length, drop}
 use Rattle.std.proofs.shelf.Tests.{cases-eq}
 use Rattle.cells.specs.Layout.{cell, at, taken, first-dead}
 use Rattle.cells.specs.Tree.{Tree, none, node, Val}
-use Rattle.cells.specs.Sound.{hit, occ, ins, Chain, Known, Counted, Buried, Ranked, Sound}
+use Rattle.cells.specs.Sound.{hit, occ, ins, Chain, Known, Counted, DeadList, Ranked, Sound}
 use Rattle.cells.specs.Have.{Item, item, ref, refs, Stand, Have, Lent}
 use Rattle.cells.proofs.Rows.{at-cell}
 use Rattle.cells.proofs.Tallies.{hit-eq, hit-ne, ins-one, ins-same, chain-move}
@@ -44,7 +44,7 @@ sound-some m xs s =
         right = a .right;
         counts = λ p lo hi. omega (arith, a .counts p lo hi, hit-ne 0 p (omega arith));
       };
-      buried = s .buried;
+      listed = s .listed;
       ranked = s .ranked;
     }
 
@@ -63,9 +63,19 @@ sound-none m xs s =
         right = a .right;
         counts = λ p lo hi. omega (arith, a .counts p lo hi, hit-ne 0 p (omega arith));
       };
-      buried = s .buried;
+      listed = s .listed;
       ranked = s .ranked;
     }
+
+-- none may be held more often or less
+pub have-none : (m : List ℕ) (xs : List Item) → Have m xs → Have m (item 0 none ∷ xs)
+have-none m xs h = record { sound = sound-some m (refs xs) (h .sound); stand = (refl, h .stand) }
+
+pub none-have : (m : List ℕ) (xs : List Item) → Have m (item 0 none ∷ xs) → Have m xs
+none-have m xs h = record { sound = sound-none m (refs xs) (h .sound); stand = h .stand .1 }
+
+pub none-second : (m : List ℕ) (x : Item) (xs : List Item) → Have m (x ∷ xs) → Have m (x ∷ (item 0 none ∷ xs))
+none-second m x xs h = reorder m (item 0 none ∷ (x ∷ xs)) (x ∷ (item 0 none ∷ xs)) (λ p. omega arith) (λ s. (s .1 .0, (s .0, s .1 .1))) (have-none m (x ∷ xs) h)
 
 -- what is known of a cell that is held
 pub record Held (m : List ℕ) (p n : ℕ) : Type 0 where
@@ -165,13 +175,13 @@ module _ (m m′ : List ℕ) (a : Agree m m′) where
                 ins-same m m′ 2 q n (λ p l h. same p 2 l h),
               );
         };
-        buried = record {
-          deads = λ q lo hi. s .buried .deads q lo hi ∙ ap (λ z. hit z 0) (sym (same q 0 lo hi));
-          inside = s .buried .inside;
+        listed = record {
+          deads = λ q lo hi. s .listed .deads q lo hi ∙ ap (λ z. hit z 0) (sym (same q 0 lo hi));
+          inside = s .listed .inside;
           chain =
               subst (λ z. Chain m′ z (s .dead)) (sym (a .head))
-              (chain-move m m′ (first-dead m) (s .dead) (s .buried .chain)
-              (λ q h. (let i = s .buried .inside q h in same q 3 (i .0) (i .1))));
+              (chain-move m m′ (first-dead m) (s .dead) (s .listed .chain)
+              (λ q h. (let i = s .listed .inside q h in same q 3 (i .0) (i .1))));
         };
         ranked = record {
           rank = s .ranked .rank;

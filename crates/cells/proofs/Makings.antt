@@ -8,12 +8,12 @@ use lib.ListN.{length, getD, drop}
 use Rattle.std.proofs.shelf.Tests.{cases-eq}
 use Rattle.cells.specs.Layout.{cell, at, put, filled, state, taken, first-dead}
 use Rattle.cells.specs.Tree.{Tree, none, node, Val}
-use Rattle.cells.specs.Sound.{hit, occ, ins, Known, Counted, Buried, Ranked, Sound}
+use Rattle.cells.specs.Sound.{hit, occ, ins, Known, Counted, DeadList, Ranked, Sound}
 use Rattle.cells.specs.Have.{Item, item, ref, refs, Stand, Have}
 use Rattle.cells.specs.Steps.{Kept, Making, Made, Dropped, Reusing}
 use Rattle.cells.proofs.Rows.{length-put, at-cell, cell-put, cell-other, at-put, at-other, state-put, length-filled, cell-filled, cell-filled-other, state-filled}
 use Rattle.cells.proofs.Tallies.{hit-eq, hit-ne, ins-none, ins-more, ins-same, chain-move}
-use Rattle.cells.proofs.Changes.{Near, Apart, apart, not-held, counted-change, buried-less, ranked-fill, val-apart}
+use Rattle.cells.proofs.Changes.{Near, Apart, apart, not-held, counted-change, listed-less, ranked-fill, val-apart}
 use Rattle.cells.proofs.Held.{stand-on}
 use Rattle.cells.proofs.Sharings.{kept-put, kept-on}
 use Rattle.cells.proofs.Trees.{tree-of}
@@ -31,9 +31,9 @@ written m d l r w e = record { count = ap (λ c. getD c 0 0) e; left = ap (λ c.
 
 -- the first dead cell
 pub first-inside : (m xs : List ℕ) (d : ℕ) → Sound m xs → d ≡ first-dead m → d ≢ 0 → (8 ≤ d) × (16 * d + 16 ≤ length m)
-first-inside m xs d s is some = go (s .dead) (s .buried)
+first-inside m xs d s is some = go (s .dead) (s .listed)
   where
-    go : (dead : List ℕ) → Buried m (s .cells) dead → (8 ≤ d) × (16 * d + 16 ≤ length m)
+    go : (dead : List ℕ) → DeadList m (s .cells) dead → (8 ≤ d) × (16 * d + 16 ≤ length m)
     go [] b = absurd (omega (arith, b .chain))
     go (e ∷ dead) b =
         let i = b .inside e (omega (arith, hit-eq e e refl)) in
@@ -45,7 +45,7 @@ child-val m p q v e h = subst (λ z. Val m z v) (sym e) h
 
 -- d was dead, and is written; what were its children are held in the place of what are
 module _ (m m′ : List ℕ) (d l r : ℕ) (w : List ℕ) (near : Near m m′ d) (head : first-dead m′ ≡ at m d 3) (is : Written m′ d l r w) where
-  reuse-sound : (xs : List ℕ) (n : ℕ) (dead : List ℕ) → Counted m (l ∷ (r ∷ xs)) n → Buried m n (d ∷ dead) → Ranked m n
+  reuse-sound : (xs : List ℕ) (n : ℕ) (dead : List ℕ) → Counted m (l ∷ (r ∷ xs)) n → DeadList m n (d ∷ dead) → Ranked m n
       → Sound m′ (at m d 1 ∷ (at m d 2 ∷ (d ∷ xs))) × Apart m n d × (occ d (l ∷ (r ∷ xs)) ≡ 0)
   reuse-sound xs n dead c b t =
       let a = at m d 1 in
@@ -88,7 +88,7 @@ module _ (m m′ : List ℕ) (d l r : ℕ) (w : List ℕ) (near : Near m m′ d)
                 | inl y ↦ omega (arith, hl, hr, is .count, ap (λ z. at m′ z 0) y, ap (λ z. at m z 0) y, hit-eq d q (sym y))
                 | inr ne ↦ omega (arith, hl, hr, at-cell m m′ q (near .others q lq ne) 0, hit-ne d q (λ y. ne (sym y)))
               ]));
-          buried = buried-less m m′ n d near lo hi dead b head (omega (arith, is .count));
+          listed = listed-less m m′ n d near lo hi dead b head (omega (arith, is .count));
           ranked =
               ranked-fill m m′ n n d t alone (λ y. no-l (sym (is .left) ∙ y)) (λ y. no-r (sym (is .right) ∙ y))
               (λ q lq hq ne. hq) (λ q lq hq ne. near .others q lq ne);
@@ -98,7 +98,7 @@ module _ (m m′ : List ℕ) (d l r : ℕ) (w : List ℕ) (near : Near m m′ d)
       )
 
   -- with the trees of what were its children
-  reuse-have : (n : ℕ) (dead : List ℕ) (u v : Tree) (rest : List Item) → Counted m (l ∷ (r ∷ refs rest)) n → Buried m n (d ∷ dead) → Ranked m n
+  reuse-have : (n : ℕ) (dead : List ℕ) (u v : Tree) (rest : List Item) → Counted m (l ∷ (r ∷ refs rest)) n → DeadList m n (d ∷ dead) → Ranked m n
       → Stand m (item l u ∷ (item r v ∷ rest))
       → (a b : Tree) × Have m′ (item (at m d 1) a ∷ (item (at m d 2) b ∷ (item d (node u v w) ∷ rest)))
   reuse-have n dead u v rest c b t stand =
@@ -161,15 +161,15 @@ module _ (m : List ℕ) (d l r : ℕ) (w : List ℕ) (thirteen : length w ≡ 13
   pub reused : (u v : Tree) (rest : List Item) → Have m (item l u ∷ (item r v ∷ rest))
       → (a b : Tree) × Have (filled (put m 0 1 (at m d 3)) d l r w) (item (at m d 1) a ∷ (item (at m d 2) b ∷ (item d (node u v w) ∷ rest)))
   unfolding m1
-  reused u v rest h = go (h .sound .dead) (h .sound .buried)
+  reused u v rest h = go (h .sound .dead) (h .sound .listed)
     where
-      go : (dead : List ℕ) → Buried m (h .sound .cells) dead
+      go : (dead : List ℕ) → DeadList m (h .sound .cells) dead
           → (a b : Tree) × Have (filled (put m 0 1 (at m d 3)) d l r w) (item (at m d 1) a ∷ (item (at m d 2) b ∷ (item d (node u v w) ∷ rest)))
       go [] b = absurd (omega (arith, b .chain))
       go (e ∷ dead) b =
           let same : e ≡ d = sym (b .chain .0) ∙ sym is in
           reuse-have m (filled m1 d l r w) d l r w near-reuse head-reuse (written (filled m1 d l r w) d l r w (cell-filled m1 w d l r thirteen long1))
-          (h .sound .cells) dead u v rest (h .sound .counted) (subst (λ z. Buried m (h .sound .cells) (z ∷ dead)) same b) (h .sound .ranked) (h .stand)
+          (h .sound .cells) dead u v rest (h .sound .counted) (subst (λ z. DeadList m (h .sound .cells) (z ∷ dead)) same b) (h .sound .ranked) (h .stand)
 
   pub kept-reuse : Kept m (filled (put m 0 1 (at m d 3)) d l r w)
   unfolding m1

@@ -8,14 +8,14 @@ use lib.ListN.{length, length-append}
 use Rattle.std.proofs.shelf.Tests.{cases-eq, cases-lt}
 use Rattle.cells.specs.Layout.{at, taken, first-dead}
 use Rattle.cells.specs.Tree.{Tree, none, node, Val, nodes}
-use Rattle.cells.specs.Sound.{hit, occ, ins, Chain, Buried, Sound}
+use Rattle.cells.specs.Sound.{hit, occ, ins, Chain, DeadList, Sound}
 use Rattle.cells.specs.Have.{Item, item, refs, Stand, Have, all-nodes}
 use Rattle.cells.specs.Theorems.{Under, here, leftward, rightward, No-cell-lost, Counting}
 use Rattle.cells.proofs.Tallies.{hit-eq, hit-ne, hit-le, ins-find, occ-append}
 use Rattle.cells.proofs.Trees.{bound}
 
 -- a cell is among the dead, if its count is 0
-dead-in : (m : List ℕ) (n : ℕ) (dead : List ℕ) (p : ℕ) → Buried m n dead → 8 ≤ p → p < 8 + n → at m p 0 ≡ 0 → 0 < occ p dead
+dead-in : (m : List ℕ) (n : ℕ) (dead : List ℕ) (p : ℕ) → DeadList m n dead → 8 ≤ p → p < 8 + n → at m p 0 ≡ 0 → 0 < occ p dead
 dead-in m n dead p b lo hi z = omega (arith, b .deads p lo hi, hit-eq (at m p 0) 0 z)
 
 abbrev From : List ℕ → List ℕ → List ℕ → ℕ → Type 0
@@ -29,7 +29,7 @@ module _ (m held : List ℕ) (s : Sound m held) where
       elim (cases-eq (occ p held) 0) [
         | inr ne ↦ (p, inl (omega arith), here)
         | inl z ↦ elim (cases-eq (at m p 0) 0) [
-          | inl gone ↦ (p, inr (dead-in m n (s .dead) p (s .buried) lo hi gone), here)
+          | inl gone ↦ (p, inr (dead-in m n (s .dead) p (s .listed) lo hi gone), here)
           | inr live ↦
               let count = s .counted .counts p lo hi in
               elim (cases-eq (ins m 1 p n) 0) [
@@ -55,75 +55,75 @@ module _ (m held : List ℕ) (s : Sound m held) where
 pub no-cell-lost : No-cell-lost
 no-cell-lost m held s p lo hi =
     let r = reached m held s p lo hi in
-    (r .0, ⊎-elim (λ (h : 0 < occ (r .0) held). inl h) (λ (h : 0 < occ (r .0) (s .dead)). inr (s .dead, s .buried .chain, h)) (r .1), r .2)
+    (r .0, ⊎-elim (λ (h : 0 < occ (r .0) held). inl h) (λ (h : 0 < occ (r .0) (s .dead)). inr (s .dead, s .listed .chain, h)) (r .1), r .2)
 
 -- where none is dead, each cell stands below one that is held
 all-held : (m held : List ℕ) (s : Sound m held) → first-dead m ≡ 0 → (p : ℕ) → 8 ≤ p → p < taken m → (h : ℕ) × (0 < occ h held) × Under m h p
 all-held m held s none-dead p lo hi =
     let r = reached m held s p lo hi in
-    (r .0, ⊎-elim (λ (h : 0 < occ (r .0) held). h) (λ (h : 0 < occ (r .0) (s .dead)). absurd (no-dead (s .dead) (s .buried) (r .0) h)) (r .1), r .2)
+    (r .0, ⊎-elim (λ (h : 0 < occ (r .0) held). h) (λ (h : 0 < occ (r .0) (s .dead)). absurd (no-dead (s .dead) (s .listed) (r .0) h)) (r .1), r .2)
   where
-    no-dead : (dead : List ℕ) → Buried m (s .cells) dead → (q : ℕ) → 0 < occ q dead → ⊥
+    no-dead : (dead : List ℕ) → DeadList m (s .cells) dead → (q : ℕ) → 0 < occ q dead → ⊥
     no-dead [] b q h = omega arith
     no-dead (d ∷ ds) b q h = omega (arith, b .chain .0, b .inside d (omega (arith, hit-eq d d refl)) .0)
 
 -- the cells of a tree
-abbrev spots : List ℕ → ℕ → Tree → List ℕ
-spots m p none = []
-spots m p (node l r w) = p ∷ (spots m (at m p 1) l ++ spots m (at m p 2) r)
+abbrev cells-of : List ℕ → ℕ → Tree → List ℕ
+cells-of m p none = []
+cells-of m p (node l r w) = p ∷ (cells-of m (at m p 1) l ++ cells-of m (at m p 2) r)
 
-abbrev all-spots : List ℕ → List Item → List ℕ
-all-spots m [] = []
-all-spots m (item p v ∷ xs) = spots m p v ++ all-spots m xs
+abbrev all-cells : List ℕ → List Item → List ℕ
+all-cells m [] = []
+all-cells m (item p v ∷ xs) = cells-of m p v ++ all-cells m xs
 
-spots-length : (m : List ℕ) (p : ℕ) (v : Tree) → length (spots m p v) ≡ nodes v
-spots-length m p none = refl
-spots-length m p (node l r w) =
-    omega (arith, length-append (spots m (at m p 1) l) (spots m (at m p 2) r), spots-length m (at m p 1) l, spots-length m (at m p 2) r)
+cells-length : (m : List ℕ) (p : ℕ) (v : Tree) → length (cells-of m p v) ≡ nodes v
+cells-length m p none = refl
+cells-length m p (node l r w) =
+    omega (arith, length-append (cells-of m (at m p 1) l) (cells-of m (at m p 2) r), cells-length m (at m p 1) l, cells-length m (at m p 2) r)
 
-all-length : (m : List ℕ) (xs : List Item) → length (all-spots m xs) ≡ all-nodes xs
+all-length : (m : List ℕ) (xs : List Item) → length (all-cells m xs) ≡ all-nodes xs
 all-length m [] = refl
-all-length m (item p v ∷ xs) = omega (arith, length-append (spots m p v) (all-spots m xs), spots-length m p v, all-length m xs)
+all-length m (item p v ∷ xs) = omega (arith, length-append (cells-of m p v) (all-cells m xs), cells-length m p v, all-length m xs)
 
 -- a tree's own cell is one of its cells
-root-spot : (m : List ℕ) (p : ℕ) (v : Tree) → Val m p v → 8 ≤ p → 0 < occ p (spots m p v)
-root-spot m p none a lo = absurd (omega arith)
-root-spot m p (node l r w) a lo = omega (arith, hit-eq p p refl)
+root-cell : (m : List ℕ) (p : ℕ) (v : Tree) → Val m p v → 8 ≤ p → 0 < occ p (cells-of m p v)
+root-cell m p none a lo = absurd (omega arith)
+root-cell m p (node l r w) a lo = omega (arith, hit-eq p p refl)
 
 -- and so are the children of each
-child-spot : (m : List ℕ) (k : ℕ) → (k ≡ 1) ⊎ (k ≡ 2) → (p : ℕ) (v : Tree) → Val m p v → (q : ℕ) → 0 < occ q (spots m p v) → 8 ≤ at m q k → 0 < occ (at m q k) (spots m p v)
-child-spot m k ks p none a q i lo = absurd (omega arith)
-child-spot m k ks p (node l r w) a q i lo =
+child-cell : (m : List ℕ) (k : ℕ) → (k ≡ 1) ⊎ (k ≡ 2) → (p : ℕ) (v : Tree) → Val m p v → (q : ℕ) → 0 < occ q (cells-of m p v) → 8 ≤ at m q k → 0 < occ (at m q k) (cells-of m p v)
+child-cell m k ks p none a q i lo = absurd (omega arith)
+child-cell m k ks p (node l r w) a q i lo =
     let c = at m q k in
-    let sl = spots m (at m p 1) l in
-    let sr = spots m (at m p 2) r in
+    let sl = cells-of m (at m p 1) l in
+    let sr = cells-of m (at m p 2) r in
     let oc = occ-append c sl sr in
     let oq = occ-append q sl sr in
     ⊎-elim
     (λ (e : p ≡ q). ⊎-elim
     (λ (k1 : k ≡ 1). let is : c ≡ at m p 1 = ap (λ z. at m z k) (sym e) ∙ ap (at m p) k1 in
-    let got : 0 < occ c sl = subst (λ z. 0 < occ z sl) (sym is) (root-spot m (at m p 1) l (a .1) (omega arith)) in omega arith)
+    let got : 0 < occ c sl = subst (λ z. 0 < occ z sl) (sym is) (root-cell m (at m p 1) l (a .1) (omega arith)) in omega arith)
     (λ (k2 : k ≡ 2). let is : c ≡ at m p 2 = ap (λ z. at m z k) (sym e) ∙ ap (at m p) k2 in
-    let got : 0 < occ c sr = subst (λ z. 0 < occ z sr) (sym is) (root-spot m (at m p 2) r (a .2) (omega arith)) in omega arith)
+    let got : 0 < occ c sr = subst (λ z. 0 < occ z sr) (sym is) (root-cell m (at m p 2) r (a .2) (omega arith)) in omega arith)
     ks)
     (λ (ne : p ≡ q → ⊥). let z = hit-ne p q ne in ⊎-elim
-    (λ (h : 0 < occ q sl). omega (arith, child-spot m k ks (at m p 1) l (a .1) q h lo))
-    (λ (h : occ q sl ≤ 0). omega (arith, child-spot m k ks (at m p 2) r (a .2) q (omega arith) lo))
+    (λ (h : 0 < occ q sl). omega (arith, child-cell m k ks (at m p 1) l (a .1) q h lo))
+    (λ (h : occ q sl ≤ 0). omega (arith, child-cell m k ks (at m p 2) r (a .2) q (omega arith) lo))
     (cases-lt 0 (occ q sl)))
     (cases-eq p q)
 
-under-spot : (m : List ℕ) (h : ℕ) (v : Tree) → Val m h v → (p : ℕ) → Under m h p → 8 ≤ p → 0 < occ p (spots m h v)
-under-spot m h v a p here lo = root-spot m h v a lo
-under-spot m h v a p (leftward {q} u some) lo = child-spot m 1 (inl refl) h v a q (under-spot m h v a q u some) lo
-under-spot m h v a p (rightward {q} u some) lo = child-spot m 2 (inr refl) h v a q (under-spot m h v a q u some) lo
+under-cell : (m : List ℕ) (h : ℕ) (v : Tree) → Val m h v → (p : ℕ) → Under m h p → 8 ≤ p → 0 < occ p (cells-of m h v)
+under-cell m h v a p here lo = root-cell m h v a lo
+under-cell m h v a p (leftward {q} u some) lo = child-cell m 1 (inl refl) h v a q (under-cell m h v a q u some) lo
+under-cell m h v a p (rightward {q} u some) lo = child-cell m 2 (inr refl) h v a q (under-cell m h v a q u some) lo
 
-held-spot : (m : List ℕ) (xs : List Item) → Stand m xs → (h p : ℕ) → 0 < occ h (refs xs) → Under m h p → 8 ≤ p → 0 < occ p (all-spots m xs)
-held-spot m [] s h p i u lo = absurd (omega arith)
-held-spot m (item q v ∷ xs) s h p i u lo =
-    let o = occ-append p (spots m q v) (all-spots m xs) in
+held-cell : (m : List ℕ) (xs : List Item) → Stand m xs → (h p : ℕ) → 0 < occ h (refs xs) → Under m h p → 8 ≤ p → 0 < occ p (all-cells m xs)
+held-cell m [] s h p i u lo = absurd (omega arith)
+held-cell m (item q v ∷ xs) s h p i u lo =
+    let o = occ-append p (cells-of m q v) (all-cells m xs) in
     ⊎-elim
-    (λ (e : q ≡ h). omega (arith, under-spot m q v (s .0) p (subst (λ z. Under m z p) (sym e) u) lo))
-    (λ (ne : q ≡ h → ⊥). omega (arith, held-spot m xs (s .1) h p (omega (arith, hit-ne q h ne)) u lo))
+    (λ (e : q ≡ h). omega (arith, under-cell m q v (s .0) p (subst (λ z. Under m z p) (sym e) u) lo))
+    (λ (ne : q ≡ h → ⊥). omega (arith, held-cell m xs (s .1) h p (omega (arith, hit-ne q h ne)) u lo))
     (cases-eq q h)
 
 -- how often the numbers below n stand in a list
@@ -168,6 +168,6 @@ below-all (suc n) xs h =
 
 pub counting : Counting
 counting m xs h none-dead =
-    let spot : (p : ℕ) → 8 ≤ p → p < taken m → 0 < occ p (all-spots m xs) =
-    λ p lo lt. (let r = all-held m (refs xs) (h .sound) none-dead p lo lt in held-spot m xs (h .stand) (r .0) p (r .1) (r .2) lo) in
-    omega (arith, below-all (taken m) (all-spots m xs) spot, below-length (taken m) (all-spots m xs), all-length m xs)
+    let listed : (p : ℕ) → 8 ≤ p → p < taken m → 0 < occ p (all-cells m xs) =
+    λ p lo lt. (let r = all-held m (refs xs) (h .sound) none-dead p lo lt in held-cell m xs (h .stand) (r .0) p (r .1) (r .2) lo) in
+    omega (arith, below-all (taken m) (all-cells m xs) listed, below-length (taken m) (all-cells m xs), all-length m xs)

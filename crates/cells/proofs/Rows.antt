@@ -163,6 +163,10 @@ module _ (m : List ℕ) (i x : ℕ) (lt : i < 112) where
       cell-same m (set m (16 + i) x) q (length-set m (16 + i) x)
       (λ k h. getD-set-other m (16 + i) (16 * q + k) x 0 (λ e. omega (arith, far (omega arith))))
 
+pub length-state : (m : List ℕ) → 128 ≤ length m → length (state m) ≡ 112
+unfolding state
+length-state m h = simp (length-take, length-drop) (omega arith)
+
 pub state-word : (m : List ℕ) (i : ℕ) → i < 112 → getD m (16 + i) 0 ≡ getD (state m) i 0
 unfolding state
 state-word m i lt = sym (getD-part m 16 112 i lt)

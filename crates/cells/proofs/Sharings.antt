@@ -7,14 +7,14 @@ use native.Mathlib.Omega.{arith}
 use lib.ListN.{length, drop}
 use Rattle.std.proofs.shelf.Lists.{drop-set-lt}
 use Rattle.std.proofs.shelf.Tests.{cases-eq}
-use Rattle.cells.specs.Layout.{cell, at, put, bury, state, taken, first-dead}
+use Rattle.cells.specs.Layout.{cell, at, put, with-dead, state, taken, first-dead}
 use Rattle.cells.specs.Tree.{Tree, none, node, Val}
 use Rattle.cells.specs.Sound.{hit, occ, ins, Known, Counted, Sound}
 use Rattle.cells.specs.Have.{Item, item, ref, refs, Stand, Have, Lent}
 use Rattle.cells.specs.Steps.{Kept, Sharing, Shared, Holding, Released}
 use Rattle.cells.proofs.Rows.{length-put, at-cell, cell-put, cell-other, at-put, at-other, state-put}
 use Rattle.cells.proofs.Tallies.{hit-eq, hit-ne, ins-le, occ-le}
-use Rattle.cells.proofs.Changes.{Near, Body, body, apart, not-held, counted-change, buried-live, buried-more, ranked-same, val-apart, val-body}
+use Rattle.cells.proofs.Changes.{Near, Body, body, apart, not-held, counted-change, listed-live, listed-more, ranked-same, val-apart, val-body}
 use Rattle.cells.proofs.Held.{stand-on, length-refs, sound-some, sound-none, Held, held}
 
 pub near-put : (m : List ℕ) (d k x : ℕ) → 8 ≤ d → k < 16 → Near m (put m d k x) d
@@ -128,7 +128,7 @@ shared-some m p lo within =
                   ])
                   (λ q ne. omega (arith, hit-ne p q (λ e. ne (sym e))))
                   (omega arith);
-              buried = buried-live m m′ n p near lo hi (s .dead) (s .buried) (head-put m p 0 x lo (omega arith)) live (omega arith);
+              listed = listed-live m m′ n p near lo hi (s .dead) (s .listed) (head-put m p 0 x lo (omega arith)) live (omega arith);
               ranked = ranked-same m m′ n p near lo hi (s .ranked) (body-count m p x p .left) (body-count m p x p .right);
             };
             stand = (keep v p (l .stands), stand-on m m′ rest (λ q u o. keep u q) (h .stand));
@@ -173,8 +173,8 @@ released-live m p x lo is live =
                   (λ q o. s .counted .holds q (omega arith))
                   (λ q ne. omega (arith, hit-ne p q (λ e. ne (sym e))))
                   (omega arith);
-              buried =
-                  buried-live m m′ n p near lo (k .high) (s .dead) (s .buried) (head-put m p 0 x lo (omega arith)) (k .live)
+              listed =
+                  listed-live m m′ n p near lo (k .high) (s .dead) (s .listed) (head-put m p 0 x lo (omega arith)) (k .live)
                   (omega (arith, at-put m p 0 x (omega arith) (k .within)));
               ranked = ranked-same m m′ n p near lo (k .high) (s .ranked) (body-count m p x p .left) (body-count m p x p .right);
             };
@@ -211,14 +211,14 @@ module _ (m : List ℕ) (p : ℕ) (lo : 8 ≤ p) where
   dead-word k lt n3 =
       at-cell m2 m3 p (cell-other m2 0 1 p p (omega arith) (omega arith)) k ∙ at-other m1 p 3 (first-dead m1) p k (omega arith) lt n3
 
-  pub kept-dead : Kept m (bury (put m p 0 0) p)
+  pub kept-dead : Kept m (with-dead (put m p 0 0) p)
   kept-dead =
-      kept-on m (put m p 0 0) (bury (put m p 0 0) p) (kept-put m p 0 0 (λ _. lo) (omega arith))
-      (kept-on (put m p 0 0) (put (put m p 0 0) p 3 (first-dead (put m p 0 0))) (bury (put m p 0 0) p)
+      kept-on m (put m p 0 0) (with-dead (put m p 0 0) p) (kept-put m p 0 0 (λ _. lo) (omega arith))
+      (kept-on (put m p 0 0) (put (put m p 0 0) p 3 (first-dead (put m p 0 0))) (with-dead (put m p 0 0) p)
       (kept-put (put m p 0 0) p 3 (first-dead (put m p 0 0)) (λ _. lo) (omega arith))
       (kept-put (put (put m p 0 0) p 3 (first-dead (put m p 0 0))) 0 1 p (λ one. absurd (omega arith)) (omega arith)))
 
-  pub released-dead : at m p 0 ≡ 1 → Released m (bury (put m p 0 0) p) p
+  pub released-dead : at m p 0 ≡ 1 → Released m (with-dead (put m p 0 0) p) p
   unfolding m1 m2 m3
   released-dead one =
       let near = near-dead in
@@ -252,8 +252,8 @@ module _ (m : List ℕ) (p : ℕ) (lo : 8 ≤ p) where
                       | inl e ↦ omega (arith, hl, hr, ap (λ z. at m3 z 0) e, ap (λ z. at m z 0) e, hit-eq p q (sym e))
                       | inr ne ↦ omega (arith, hl, hr, at-cell m m3 q (near .others q l ne) 0, hit-ne p q (λ e. ne (sym e)))
                     ]));
-                buried =
-                    buried-more m m3 n p near lo (k .high) (s .dead) (s .buried)
+                listed =
+                    listed-more m m3 n p near lo (k .high) (s .dead) (s .listed)
                     (at-put m2 0 1 p (omega arith) (omega (arith, k .within)))
                     (at-cell m2 m3 p (cell-other m2 0 1 p p (omega arith) (omega arith)) 3
                     ∙ at-put m1 p 3 (first-dead m1) (omega arith) (omega (arith, k .within))

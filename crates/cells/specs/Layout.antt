@@ -34,8 +34,8 @@ abbrev pub filled : List ℕ → ℕ → ℕ → ℕ → List ℕ → List ℕ
 filled m p l r w = over (put (put (put m p 0 1) p 1 l) p 2 r) (16 * p + 3) w
 
 -- cell p before the dead ones
-abbrev pub bury : List ℕ → ℕ → List ℕ
-bury m p = put (put m p 3 (first-dead m)) 0 1 p
+abbrev pub with-dead : List ℕ → ℕ → List ℕ
+with-dead m p = put (put m p 3 (first-dead m)) 0 1 p
 
 -- the words of the state, and its references
 unfoldable pub state : List ℕ → List ℕ

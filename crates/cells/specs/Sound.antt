@@ -41,7 +41,7 @@ pub record Counted (m held : List ℕ) (n : ℕ) : Type 0 where
   pub counts : (p : ℕ) → 8 ≤ p → p < 8 + n → at m p 0 ≡ occ p held + (ins m 1 p n + ins m 2 p n)
 
 -- the dead list has each cell with the count 0, once, and no other
-pub record Buried (m : List ℕ) (n : ℕ) (dead : List ℕ) : Type 0 where
+pub record DeadList (m : List ℕ) (n : ℕ) (dead : List ℕ) : Type 0 where
   pub deads : (p : ℕ) → 8 ≤ p → p < 8 + n → occ p dead ≡ hit (at m p 0) 0
   pub inside : (p : ℕ) → 0 < occ p dead → (8 ≤ p) × (p < 8 + n)
   pub chain : Chain m (first-dead m) dead
@@ -57,5 +57,5 @@ pub record Sound (m held : List ℕ) : Type 0 where
   pub cells : ℕ
   pub dead : List ℕ
   pub counted : Counted m held cells
-  pub buried : Buried m cells dead
+  pub listed : DeadList m cells dead
   pub ranked : Ranked m cells

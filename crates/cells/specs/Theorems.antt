@@ -3,7 +3,7 @@ use mathlib.Core.Path.{_≡_}
 use mathlib.Core.Logic.{_⊎_}
 use mathlib.Core.List.{List, _++_}
 use Prim.Native.Nat.{ℕ, _+_, _<_, _≤_}
-use lib.ListN.{replicate}
+use Rattle.words.specs.Padded.{zeros}
 use Rattle.cells.specs.Layout.{at, state, roots, taken, first-dead}
 use Rattle.cells.specs.Sound.{occ, Chain, Sound}
 use Rattle.cells.specs.Have.{Item, refs, Have, all-nodes}
@@ -25,7 +25,7 @@ Counting = (m : List ℕ) (items : List Item) → Have m items → first-dead m 
 
 -- With zeros behind the row all that is held stands for the same trees, and the state is the same.
 abbrev pub Longer-row : Type 0
-Longer-row = (m : List ℕ) (items : List Item) (n : ℕ) → Have m items → Have (m ++ replicate n 0) items × (state (m ++ replicate n 0) ≡ state m)
+Longer-row = (m : List ℕ) (items : List Item) (n : ℕ) → Have m items → Have (m ++ zeros n) items × (state (m ++ zeros n) ≡ state m)
 
 -- Each held reference of a sound heap stands for a tree.
 abbrev pub Has-trees : Type 0

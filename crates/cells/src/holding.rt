@@ -2,7 +2,7 @@
 ghost use mathlib.Core.Path.{_≡_};
 ghost use Prim.Native.Nat.{ℕ, _+_, _*_, _<_, _≤_};
 ghost use lib.ListN.{length};
-ghost use Rattle.cells.specs.Layout.{at, put, bury as buried};
+ghost use Rattle.cells.specs.Layout.{at, put, with-dead};
 ghost use Rattle.cells.specs.Steps.{Kept, Sharing, Shared, Holding, Released};
 use crate::cell::COUNT;
 use crate::cell::FIRST_DEAD;
@@ -46,7 +46,7 @@ pub fn release<W: Words>(words: &mut W, p: Ref)
     if p.0 != 0 {
         let count = lower(words, p);
         if count == 0 {
-            bury(words, p);
+            push_dead(words, p);
         }
     }
 }
@@ -66,9 +66,9 @@ fn lower<W: Words>(words: &mut W, p: Ref) -> u32
 }
 
 /// Puts `p` before the dead cells.
-fn bury<W: Words>(words: &mut W, p: Ref)
+fn push_dead<W: Words>(words: &mut W, p: Ref)
     requires within { ⌜ 16 * p .0 + 16 ≤ length (row (now words)) ⌝ }
-    ensures same { λ _. ⌜ row (now (words .exit)) ≡ buried (row (now (words .entry))) (p .0) ⌝ }
+    ensures same { λ _. ⌜ row (now (words .exit)) ≡ with-dead (row (now (words .entry))) (p .0) ⌝ }
     ensures touches { λ _. ⌜ touched (now (words .exit)) ≤ touched (now (words .entry)) + 3 ⌝ }
 {
     let first = word(words, HEADER, FIRST_DEAD);

@@ -69,7 +69,7 @@ fn fill<W: Words>(words: &mut W, d: Ref, left: Ref, right: Ref, data: Data)
 }
 
 /// Takes the first dead cell `d` from the dead ones.
-fn unbury<W: Words>(words: &mut W, d: Ref)
+fn pop_dead<W: Words>(words: &mut W, d: Ref)
     requires within { ⌜ 16 * d .0 + 16 ≤ length (row (now words)) ⌝ }
     ensures same { λ _. ⌜ row (now (words .exit)) ≡ put (row (now (words .entry))) 0 1 (at (row (now (words .entry))) (d .0) 3) ⌝ }
     ensures long { λ _. ⌜ length (row (now (words .exit))) ≡ length (row (now (words .entry))) ⌝ }
@@ -97,7 +97,7 @@ fn reuse<W: Words>(words: &mut W, d: Ref, left: Ref, right: Ref, data: Data)
     ensures kept { λ _. ⌜ Kept (row (now (words .entry))) (row (now (words .exit))) ⌝ }
     ensures touches { λ _. ⌜ touched (now (words .exit)) ≤ touched (now (words .entry)) + 30 ⌝ }
 {
-    unbury(words, d);
+    pop_dead(words, d);
     let old = children_of(words, d);
     fill(words, d, left, right, data);
     release_both(words, old.left, old.right);

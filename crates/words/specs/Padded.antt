@@ -3,7 +3,7 @@ use mathlib.Core.List.{List, _++_}
 use Prim.Native.Nat.{ℕ, _-_}
 use lib.ListN.{length, replicate}
 
-abbrev pub zeros : ℕ → List ℕ
+unfoldable pub zeros : ℕ → List ℕ
 zeros n = replicate n 0
 
 -- up to the length n

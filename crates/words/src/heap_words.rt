@@ -3,11 +3,11 @@
 ghost use mathlib.Core.Path.{_≡_};
 ghost use mathlib.Core.List.{_++_};
 ghost use Prim.Native.Nat.{ℕ, _+_, _-_, _<_, _≤_, min};
-ghost use lib.ListN.{length, replicate, getD, set};
+ghost use lib.ListN.{length, getD, set};
 ghost use Rattle.std.specs.Of.Vec.{vec-items, vec-len, vec-cap};
 ghost use Rattle.std.specs.Results.{Cases as ByOk};
 ghost use Rattle.std.specs.Vec.{made};
-ghost use Rattle.words.specs.Padded.{padded};
+ghost use Rattle.words.specs.Padded.{padded, zeros};
 use crate::Words;
 use std::alloc::AllocError;
 use std::alloc::Global;
@@ -28,7 +28,7 @@ pub struct HeapWords {
 impl HeapWords {
     /// A row of `size` words, all 0, or an error where the memory can't be had.
     pub fn new(heap: Global, size: usize) -> Result<HeapWords, AllocError>
-        ensures { λ r. ⌜ made r (λ w. (padded (vec-items (w .items)) (w .size) ≡ replicate size 0) × (w .touches ≡ 0)) ⌝ }
+        ensures { λ r. ⌜ made r (λ w. (padded (vec-items (w .items)) (w .size) ≡ zeros size) × (length (padded (vec-items (w .items)) (w .size)) ≡ size) × (w .touches ≡ 0)) ⌝ }
     {
         let items = Vec::with_capacity(heap, size)?;
         Ok(HeapWords {

@@ -6,13 +6,13 @@ use Rattle.cells.specs.Layout.{at, put, filled}
 use Rattle.cells.proofs.Makings.{reuse-inside, after-drop, reuse-made, reuse-kept}
 use Rattle.cells.proofs.making.reuse.Needs as need
 
-pub unbury-requires : need.unbury-requires
-unbury-requires g c κs = record { within = reuse-inside _ _ _ _ (c .pre) .1 }
+pub pop-dead-requires : need.pop-dead-requires
+pop-dead-requires g c κs = record { within = reuse-inside _ _ _ _ (c .pre) .1 }
 
 pub children-of-old-requires : need.children-of-old-requires
 children-of-old-requires g c κs =
     let h = reuse-inside _ _ _ _ (c .pre) .1 in
-    record { within = omega (arith, h, c .unbury .ensures .long) }
+    record { within = omega (arith, h, c .pop-dead .ensures .long) }
 
 pub fill-requires : need.fill-requires
 fill-requires g c κs =
