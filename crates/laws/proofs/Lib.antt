@@ -1,2 +1,3 @@
 -- Lemmas on the definitions.
 pub mod Replacements
+pub mod LineBounds
