@@ -1,3 +1,4 @@
 -- Lemmas on the definitions.
 pub mod Replacements
 pub mod LineBounds
+pub mod MotionBounds
