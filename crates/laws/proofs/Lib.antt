@@ -2,3 +2,5 @@
 pub mod Replacements
 pub mod LineBounds
 pub mod MotionBounds
+pub mod Weights
+pub mod Edits
