@@ -4,3 +4,5 @@ pub mod LineBounds
 pub mod MotionBounds
 pub mod Weights
 pub mod Edits
+pub mod Phases
+pub mod Outcomes
