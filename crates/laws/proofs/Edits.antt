@@ -119,7 +119,15 @@ module _ (e : Ed) (a b : ℕ) (new : Text) (to : ℕ) (order : a ≤ b) (within 
   edit-edits =
       cond-both (eqb (length (part (e .text) a b)) 0 && eqb (length new) 0) (with-cursor e to) _ (Edits e) (λ _. moved-edits e e to (no-edit e)) (λ _. changed-edits)
 
-  pub edit-within : to ≤ a + length new → edit e a b new to .cursor ≤ length (edit e a b new to .text)
+  -- what was put in is there
+  pub edit-length : a + length new ≤ length (edit e a b new to .text)
   unfolding edit
-  edit-within h =
-      cond-both (eqb (length (part (e .text) a b)) 0 && eqb (length new) 0) (with-cursor e to) _ (λ f. f .cursor ≤ length (f .text)) (λ q. omega (arith, eqb-true (length new) 0 (and-parts _ _ q .1))) (λ _. omega (arith, length-replaced (e .text) new a b within))
+  edit-length =
+      cond-both (eqb (length (part (e .text) a b)) 0 && eqb (length new) 0) (with-cursor e to) _ (λ f. a + length new ≤ length (f .text)) (λ q. omega (arith, eqb-true (length new) 0 (and-parts _ _ q .1))) (λ _. omega (arith, length-replaced (e .text) new a b within))
+
+  edit-cursor : edit e a b new to .cursor ≡ to
+  unfolding edit
+  edit-cursor = cond-both (eqb (length (part (e .text) a b)) 0 && eqb (length new) 0) (with-cursor e to) _ (λ f. f .cursor ≡ to) (λ _. refl) (λ _. refl)
+
+  pub edit-within : to ≤ a + length new → edit e a b new to .cursor ≤ length (edit e a b new to .text)
+  edit-within h = omega (arith, edit-length, edit-cursor)

@@ -6,3 +6,5 @@ pub mod Weights
 pub mod Edits
 pub mod Phases
 pub mod Outcomes
+pub mod Actions
+pub mod KeyOutcomes

@@ -55,6 +55,10 @@ starts-insert e f x w = types (start-insert-edits e f x) w refl
 pub either : (e : Ed) (x : Next) (b : Bool) (f g : Ed) → (b ≡ true → Outcome e x f) → (b ≡ false → Outcome e x g) → Outcome e x (cond b f g)
 either e x b f g p q = cond-both b f g (Outcome e x) p q
 
+pub by-test : (e : Ed) (b : Bool) (x y : Next) (f g : Ed) → Outcome e x f → Outcome e y g → Outcome e (cond b x y) (cond b f g)
+by-test e true x y f g p q = p
+by-test e false x y f g p q = q
+
 -- Operators.
 
 -- what an operator may be given
@@ -113,7 +117,7 @@ module _ (e : Ed) (r : Region) (fits : Fits (e .text) r) (stands : Within e) whe
   behind-yanked : (f : Ed) → Edits (yanked e r) f → Edits e f
   behind-yanked f x = edits-then e (yanked e r) f (yanked-edits e r) x
 
-  deletes : Outcome e over (delete-region e r)
+  pub deletes : Outcome e over (delete-region e r)
   unfolding delete-region
   deletes =
       either e over (r .linewise) _ _ (λ l. finishes e _ (behind-yanked _ (delete-lines-edits (yanked e r) r yanked-fits (fits .order l))) (delete-lines-within (yanked e r) r)) (λ _. either e over (leb (r .to) (r .from)) _ _ (λ _. cancels e over) (λ b. finishes e _ (behind-yanked _ (delete-bytes-edits (yanked e r) r yanked-fits (omega (arith, leb-false (r .to) (r .from) b)))) (delete-bytes-within (yanked e r) r)))
