@@ -16,24 +16,24 @@ use Rattle.spec.specs.History.{edit, finish, cancel, undo-once, redo-once}
 use Rattle.spec.specs.Commands.{clamp-cursor, start-insert, delete-region, delete-chars-by, write-over, join-once, join-by, put-lines-below, put-lines-above, put-bytes, put-after-by, put-before-by, insert-at, insert-line, undo-by, redo-by, run-action, type-byte, erase-byte, leave-insert, insert-key}
 use Rattle.laws.proofs.LineBounds.{skip-forward-up, line-start-down, line-end-up, line-end-within, first-nonblank-within, clamp-within}
 use Rattle.laws.proofs.Edits.{Edits, no-edit, edits-then, moved-edits, edit-edits, edit-length, edit-within}
-use Rattle.laws.proofs.Phases.{Phase, typing, Next, goes-on, over, moves, behind-action, next}
-use Rattle.laws.proofs.Outcomes.{Within, Outcome, types, undoes, redoes, cancels, finishes, starts-insert, either, by-test, Fits, deletes}
+use Rattle.laws.proofs.Phases.{Phase, typing, Next, goes-on, over, back, forth, behind-action, next}
+use Rattle.laws.proofs.Outcomes.{Within, Idle, Outcome, types, undoes, redoes, cancels, finishes, starts-insert, either, by-test, Fits, deletes}
 
 or-one-positive : (n : ℕ) → 1 ≤ or-one n
 or-one-positive zero = omega arith
 or-one-positive (suc n) = omega arith
 
 -- x
-deletes-chars : (e : Ed) (n : ℕ) → Within e → Outcome e over (delete-chars-by e n)
+deletes-chars : (e : Ed) (n : ℕ) → Idle e → Outcome e over (delete-chars-by e n)
 unfolding delete-chars-by
 deletes-chars e n w =
-    either e over (leb (line-end (e .text) (e .cursor)) (e .cursor)) _ _ (λ _. cancels e over) (λ _. deletes e _ (record { from = w; order = λ p. absurd (false≢true p) }) w)
+    either e over (leb (line-end (e .text) (e .cursor)) (e .cursor)) _ _ (λ _. cancels e over w) (λ _. deletes e _ (record { from = w .within; order = λ p. absurd (false≢true p) }) w)
 
 -- r
-pub writes-over : (e : Ed) (n c : ℕ) → Within e → Outcome e over (write-over e n c)
+pub writes-over : (e : Ed) (n c : ℕ) → Idle e → Outcome e over (write-over e n c)
 unfolding write-over
 writes-over e n c w =
-    either e over (is-typeable c && leb (e .cursor + n) (line-end (e .text) (e .cursor))) _ _ (λ _. finishes e _ (edit-edits e (e .cursor) (e .cursor + n) (replicate n c) _ (omega arith) w) (edit-within e (e .cursor) (e .cursor + n) (replicate n c) _ (omega arith) w (simp length-replicate (omega arith)))) (λ _. cancels e over)
+    either e over (is-typeable c && leb (e .cursor + n) (line-end (e .text) (e .cursor))) _ _ (λ _. finishes e _ (edit-edits e (e .cursor) (e .cursor + n) (replicate n c) _ (omega arith) (w .within)) (edit-within e (e .cursor) (e .cursor + n) (replicate n c) _ (omega arith) (w .within) (simp length-replicate (omega arith)))) (λ _. cancels e over w)
 
 -- J
 joined-edits : (e : Ed) → Within e → Edits e (join-once e)
@@ -56,10 +56,10 @@ pub joins-within : (n : ℕ) (e : Ed) → Within e → Within (times n join-once
 joins-within zero e w = w
 joins-within (suc n) e w = joins-within n (join-once e) (joined-within e w)
 
-joins : (e : Ed) (n : ℕ) → Within e → Outcome e over (join-by e n)
+joins : (e : Ed) (n : ℕ) → Idle e → Outcome e over (join-by e n)
 unfolding join-by
 joins e n w =
-    either e over (ltb (line-end (e .text) (e .cursor)) (length (e .text))) _ _ (λ _. finishes e _ (joins-edits (max 1 (n - 1)) e w) (joins-within (max 1 (n - 1)) e w)) (λ _. cancels e over)
+    either e over (ltb (line-end (e .text) (e .cursor)) (length (e .text))) _ _ (λ _. finishes e _ (joins-edits (max 1 (n - 1)) e (w .within)) (joins-within (max 1 (n - 1)) e (w .within))) (λ _. cancels e over w)
 
 -- p and P
 
@@ -68,15 +68,15 @@ unfolding copies
 copies-positive zero c t h = absurd (omega arith)
 copies-positive (suc n) c t h = omega arith
 
-puts-lines-below : (e : Ed) (n : ℕ) → 1 ≤ n → Within e → Outcome e over (put-lines-below e n)
+puts-lines-below : (e : Ed) (n : ℕ) → 1 ≤ n → Idle e → Outcome e over (put-lines-below e n)
 unfolding put-lines-below
 puts-lines-below e n h w =
     let b : ℕ = line-end (e .text) (e .cursor) in
     let new : Text = copies n (newline ∷ e .register .bytes) in
-    let k : b ≤ length (e .text) = line-end-within (e .text) (e .cursor) w in
+    let k : b ≤ length (e .text) = line-end-within (e .text) (e .cursor) (w .within) in
     finishes e _ (moved-edits e (edit e b b new (e .cursor)) _ (edit-edits e b b new (e .cursor) (omega arith) k)) (first-nonblank-within _ (suc b) (omega (arith, edit-length e b b new (e .cursor) (omega arith) k, copies-positive n newline (e .register .bytes) h)))
 
-puts-lines-above : (e : Ed) (n : ℕ) → Within e → Outcome e over (put-lines-above e n)
+puts-lines-above : (e : Ed) (n : ℕ) → Idle e → Outcome e over (put-lines-above e n)
 unfolding put-lines-above
 puts-lines-above e n w =
     let a : ℕ = line-start (e .text) (e .cursor) in
@@ -84,19 +84,19 @@ puts-lines-above e n w =
     let k : a ≤ length (e .text) = omega (arith, line-start-down (e .text) (e .cursor)) in
     finishes e _ (moved-edits e (edit e a a new (e .cursor)) _ (edit-edits e a a new (e .cursor) (omega arith) k)) (first-nonblank-within _ a (omega (arith, edit-length e a a new (e .cursor) (omega arith) k)))
 
-puts-bytes : (e : Ed) (n a : ℕ) → a ≤ length (e .text) → Outcome e over (put-bytes e n a)
+puts-bytes : (e : Ed) (n a : ℕ) → Idle e → a ≤ length (e .text) → Outcome e over (put-bytes e n a)
 unfolding put-bytes clamp-cursor
-puts-bytes e n a h =
-    either e over (eqb (length (e .register .bytes)) 0) _ _ (λ _. cancels e over) (λ _. finishes e _ (moved-edits e (edit e a a (copies n (e .register .bytes)) _) _ (edit-edits e a a (copies n (e .register .bytes)) _ (omega arith) h)) (clamp-within _ _))
+puts-bytes e n a w h =
+    either e over (eqb (length (e .register .bytes)) 0) _ _ (λ _. cancels e over w) (λ _. finishes e _ (moved-edits e (edit e a a (copies n (e .register .bytes)) _) _ (edit-edits e a a (copies n (e .register .bytes)) _ (omega arith) h)) (clamp-within _ _))
 
-puts-after : (e : Ed) (n : ℕ) → 1 ≤ n → Within e → Outcome e over (put-after-by e n)
+puts-after : (e : Ed) (n : ℕ) → 1 ≤ n → Idle e → Outcome e over (put-after-by e n)
 unfolding put-after-by
 puts-after e n h w =
-    either e over (e .register .linewise) _ _ (λ _. puts-lines-below e n h w) (λ _. puts-bytes e n _ (omega (arith, line-end-within (e .text) (e .cursor) w)))
+    either e over (e .register .linewise) _ _ (λ _. puts-lines-below e n h w) (λ _. puts-bytes e n _ w (omega (arith, line-end-within (e .text) (e .cursor) (w .within))))
 
-puts-before : (e : Ed) (n : ℕ) → Within e → Outcome e over (put-before-by e n)
+puts-before : (e : Ed) (n : ℕ) → Idle e → Outcome e over (put-before-by e n)
 unfolding put-before-by
-puts-before e n w = either e over (e .register .linewise) _ _ (λ _. puts-lines-above e n w) (λ _. puts-bytes e n (e .cursor) w)
+puts-before e n w = either e over (e .register .linewise) _ _ (λ _. puts-lines-above e n w) (λ _. puts-bytes e n (e .cursor) w (w .within))
 
 -- i a I A o O
 
@@ -111,29 +111,29 @@ inserts-line e a to h k =
 
 -- u and control R
 
-goes-back : (e : Ed) (n : ℕ) → Outcome e moves (undo-by e n)
+goes-back : (e : Ed) (n : ℕ) → Idle e → Outcome e back (undo-by e n)
 unfolding undo-by
-goes-back e n = either e moves (eqb (length (e .undo)) 0) _ _ (λ _. cancels e moves) (λ _. undoes n)
+goes-back e n w = either e back (eqb (length (e .undo)) 0) _ _ (λ _. cancels e back w) (λ _. undoes n w)
 
-goes-forth : (e : Ed) (n : ℕ) → Outcome e moves (redo-by e n)
+goes-forth : (e : Ed) (n : ℕ) → Idle e → Outcome e forth (redo-by e n)
 unfolding redo-by
-goes-forth e n = either e moves (eqb (length (e .redo)) 0) _ _ (λ _. cancels e moves) (λ _. redoes n)
+goes-forth e n w = either e forth (eqb (length (e .redo)) 0) _ _ (λ _. cancels e forth w) (λ _. redoes n w)
 
-pub runs-action : (e : Ed) (n : ℕ) (a : Action) → Within e → Outcome e (behind-action a) (run-action e n a)
+pub runs-action : (e : Ed) (n : ℕ) (a : Action) → Idle e → Outcome e (behind-action a) (run-action e n a)
 unfolding run-action
 runs-action e n delete-chars w = deletes-chars e (or-one n) w
 runs-action e n join-lines w = joins e (or-one n) w
 runs-action e n put-after w = puts-after e (or-one n) (or-one-positive n) w
 runs-action e n put-before w = puts-before e (or-one n) w
-runs-action e n insert-before w = inserts-at e (e .cursor) w
-runs-action e n insert-after w = inserts-at e _ (omega (arith, line-end-within (e .text) (e .cursor) w))
-runs-action e n insert-at-first-nonblank w = inserts-at e _ (first-nonblank-within (e .text) (e .cursor) w)
-runs-action e n insert-at-line-end w = inserts-at e _ (line-end-within (e .text) (e .cursor) w)
-runs-action e n insert-line-below w = inserts-line e _ _ (line-end-within (e .text) (e .cursor) w) (omega arith)
+runs-action e n insert-before w = inserts-at e (e .cursor) (w .within)
+runs-action e n insert-after w = inserts-at e _ (omega (arith, line-end-within (e .text) (e .cursor) (w .within)))
+runs-action e n insert-at-first-nonblank w = inserts-at e _ (first-nonblank-within (e .text) (e .cursor) (w .within))
+runs-action e n insert-at-line-end w = inserts-at e _ (line-end-within (e .text) (e .cursor) (w .within))
+runs-action e n insert-line-below w = inserts-line e _ _ (line-end-within (e .text) (e .cursor) (w .within)) (omega arith)
 runs-action e n insert-line-above w =
     inserts-line e (line-start (e .text) (e .cursor)) _ (omega (arith, line-start-down (e .text) (e .cursor))) (omega arith)
-runs-action e n go-back w = goes-back e (or-one n)
-runs-action e n go-forth w = goes-forth e (or-one n)
+runs-action e n go-back w = goes-back e (or-one n) w
+runs-action e n go-forth w = goes-forth e (or-one n) w
 
 -- Inserting.
 

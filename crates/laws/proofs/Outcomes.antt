@@ -18,10 +18,15 @@ use Rattle.spec.specs.Commands.{clamp-cursor, start-insert, yanked, delete-line
 use Rattle.laws.proofs.LineBounds.{line-start-down, line-end-up, line-end-within, first-nonblank-within, clamp-within, line-start-nth}
 use Rattle.laws.proofs.MotionBounds.{Leads-within, nowhere, within, motion-within}
 use Rattle.laws.proofs.Edits.{Edits, no-edit, edits-then, moved-edits, start-insert-edits, yanked-edits, edit-edits, edit-within}
-use Rattle.laws.proofs.Phases.{Phase, typing, waiting, Next, goes-on, over, moves, behind-operator, behind-motion}
+use Rattle.laws.proofs.Phases.{Phase, typing, waiting, Next, goes-on, over, back, forth, behind-operator, behind-motion}
 
 abbrev pub Within : Ed → Type 0
 Within e = e .cursor ≤ length (e .text)
+
+-- outside of inserting, where commands begin
+pub record Idle (e : Ed) : Type 0 where
+  pub within : Within e
+  pub idle : e .inserting ≡ false
 
 -- a command that is over, with a column for j and k to keep to
 abbrev pub closed : Ed → ℕ → Ed
@@ -29,16 +34,16 @@ closed e c = with-kept-column (finish e) c
 
 -- from the editor that has noted the key, what was said of the key, and the editor behind it
 pub data Outcome (e : Ed) : Next → Ed → Type 0 where
-  waits : (q : Pending) → Outcome e (goes-on (waiting q)) (with-pending e q)
+  waits : (q : Pending) → Idle e → Outcome e (goes-on (waiting q)) (with-pending e q)
   types : {f : Ed} → Edits e f → Within f → f .inserting ≡ true → Outcome e (goes-on typing) f
-  refuses : {x : Next} (c : ℕ) → Outcome e x (closed e c)
+  refuses : {x : Next} (c : ℕ) → Idle e → Outcome e x (closed e c)
   ends : {f : Ed} (c : ℕ) → Edits e f → Within f → Outcome e over (closed f c)
-  undoes : (n : ℕ) → Outcome e moves (finish (times n undo-once e))
-  redoes : (n : ℕ) → Outcome e moves (finish (times n redo-once e))
+  undoes : (n : ℕ) → Idle e → Outcome e back (finish (times n undo-once e))
+  redoes : (n : ℕ) → Idle e → Outcome e forth (finish (times n redo-once e))
 
-pub cancels : (e : Ed) (x : Next) → Outcome e x (cancel e)
+pub cancels : (e : Ed) (x : Next) → Idle e → Outcome e x (cancel e)
 unfolding cancel finish-in-column
-cancels e x = refuses (e .kept-column)
+cancels e x w = refuses (e .kept-column) w
 
 pub finishes : (e f : Ed) → Edits e f → Within f → Outcome e over (finish f)
 unfolding finish
@@ -105,14 +110,14 @@ delete-bytes-within : (e : Ed) (r : Region) → Within (delete-bytes e r)
 unfolding delete-bytes clamp-cursor
 delete-bytes-within e r = clamp-within _ _
 
-module _ (e : Ed) (r : Region) (fits : Fits (e .text) r) (stands : Within e) where
+module _ (e : Ed) (r : Region) (fits : Fits (e .text) r) (w : Idle e) where
   yanked-fits : r .from ≤ length (yanked e r .text)
   unfolding yanked
   yanked-fits = fits .from
 
   yanked-within : Within (yanked e r)
   unfolding yanked
-  yanked-within = stands
+  yanked-within = w .within
 
   behind-yanked : (f : Ed) → Edits (yanked e r) f → Edits e f
   behind-yanked f x = edits-then e (yanked e r) f (yanked-edits e r) x
@@ -120,19 +125,19 @@ module _ (e : Ed) (r : Region) (fits : Fits (e .text) r) (stands : Within e) whe
   pub deletes : Outcome e over (delete-region e r)
   unfolding delete-region
   deletes =
-      either e over (r .linewise) _ _ (λ l. finishes e _ (behind-yanked _ (delete-lines-edits (yanked e r) r yanked-fits (fits .order l))) (delete-lines-within (yanked e r) r)) (λ _. either e over (leb (r .to) (r .from)) _ _ (λ _. cancels e over) (λ b. finishes e _ (behind-yanked _ (delete-bytes-edits (yanked e r) r yanked-fits (omega (arith, leb-false (r .to) (r .from) b)))) (delete-bytes-within (yanked e r) r)))
+      either e over (r .linewise) _ _ (λ l. finishes e _ (behind-yanked _ (delete-lines-edits (yanked e r) r yanked-fits (fits .order l))) (delete-lines-within (yanked e r) r)) (λ _. either e over (leb (r .to) (r .from)) _ _ (λ _. cancels e over w) (λ b. finishes e _ (behind-yanked _ (delete-bytes-edits (yanked e r) r yanked-fits (omega (arith, leb-false (r .to) (r .from) b)))) (delete-bytes-within (yanked e r) r)))
 
   yanks : Outcome e over (yank-region e r)
   unfolding yank-region
   yanks =
-      either e over (r .linewise) _ _ (λ _. finishes-in-column e _ (yanked-edits e r) yanked-within) (λ _. either e over (leb (r .to) (r .from)) _ _ (λ _. cancels e over) (λ b. finishes e _ (moved-edits e (yanked e r) (r .from) (yanked-edits e r)) yanked-fits))
+      either e over (r .linewise) _ _ (λ _. finishes-in-column e _ (yanked-edits e r) yanked-within) (λ _. either e over (leb (r .to) (r .from)) _ _ (λ _. cancels e over w) (λ b. finishes e _ (moved-edits e (yanked e r) (r .from) (yanked-edits e r)) yanked-fits))
 
   changes : Outcome e (goes-on typing) (change-region e r)
   unfolding change-region
   changes =
-      starts-insert e _ (cond-both (leb (r .to) (r .from)) e _ (Edits e) (λ _. no-edit e) (λ b. behind-yanked _ (edit-edits (yanked e r) (r .from) (r .to) [] (r .from) (omega (arith, leb-false (r .to) (r .from) b)) yanked-fits))) (cond-both (leb (r .to) (r .from)) e _ Within (λ _. stands) (λ b. edit-within (yanked e r) (r .from) (r .to) [] (r .from) (omega (arith, leb-false (r .to) (r .from) b)) yanked-fits (omega arith)))
+      starts-insert e _ (cond-both (leb (r .to) (r .from)) e _ (Edits e) (λ _. no-edit e) (λ b. behind-yanked _ (edit-edits (yanked e r) (r .from) (r .to) [] (r .from) (omega (arith, leb-false (r .to) (r .from) b)) yanked-fits))) (cond-both (leb (r .to) (r .from)) e _ Within (λ _. w .within) (λ b. edit-within (yanked e r) (r .from) (r .to) [] (r .from) (omega (arith, leb-false (r .to) (r .from) b)) yanked-fits (omega arith)))
 
-pub operates : (o : Operator) (e : Ed) (r : Region) → Fits (e .text) r → Within e → Outcome e (behind-operator o) (operate o e r)
+pub operates : (o : Operator) (e : Ed) (r : Region) → Fits (e .text) r → Idle e → Outcome e (behind-operator o) (operate o e r)
 unfolding operate
 operates delete e r f w = deletes e r f w
 operates yank e r f w = yanks e r f w
@@ -146,19 +151,19 @@ moves-to e m g h =
     either e over (keeps-column m) _ _ (λ _. finishes-in-column e _ (moved-edits e e (g .place) (no-edit e)) h) (λ _. finishes e _ (moved-edits e e (g .place) (no-edit e)) h)
 
 -- what is done with a target, where there is one
-if-led : (e : Ed) (x : Next) (f : Target → Ed) (o : Option Target) → Leads-within (e .text) o → ((g : Target) → g .place ≤ length (e .text) → Outcome e x (f g)) → Outcome e x (elim o [ none ↦ cancel e | some g ↦ f g ])
-if-led e x f none l p = cancels e x
-if-led e x f (some g) (within l) p = p g l
+if-led : (e : Ed) → Idle e → (x : Next) (f : Target → Ed) (o : Option Target) → Leads-within (e .text) o → ((g : Target) → g .place ≤ length (e .text) → Outcome e x (f g)) → Outcome e x (elim o [ none ↦ cancel e | some g ↦ f g ])
+if-led e w x f none l p = cancels e x w
+if-led e w x f (some g) (within l) p = p g l
 
-pub runs-motion : (e : Ed) (p : Prefix) (m : Motion) → Within e → Outcome e (behind-motion p) (run-motion e p m)
+pub runs-motion : (e : Ed) (p : Prefix) (m : Motion) → Idle e → Outcome e (behind-motion p) (run-motion e p m)
 unfolding run-motion
 runs-motion e (counting n) m w =
-    if-led e over (move-to e m) _ (motion-within (e .text) (e .cursor) w false (e .kept-column) _ m) (moves-to e m)
+    if-led e w over (move-to e m) _ (motion-within (e .text) (e .cursor) (w .within) false (e .kept-column) _ m) (moves-to e m)
 runs-motion e (operating o a b) m w =
-    if-led e (behind-operator o) (λ g. operate o e (region (e .text) (e .cursor) g)) _ (motion-within (e .text) (e .cursor) w true (e .kept-column) _ m) (λ g _. operates o e _ (region-fits (e .text) (e .cursor) g w) w)
+    if-led e w (behind-operator o) (λ g. operate o e (region (e .text) (e .cursor) g)) _ (motion-within (e .text) (e .cursor) (w .within) true (e .kept-column) _ m) (λ g _. operates o e _ (region-fits (e .text) (e .cursor) g (w .within)) w)
 
 -- dd yy cc
-pub operates-lines : (o : Operator) (e : Ed) (n : ℕ) → Within e → Outcome e (behind-operator o) (operate-lines o e n)
+pub operates-lines : (o : Operator) (e : Ed) (n : ℕ) → Idle e → Outcome e (behind-operator o) (operate-lines o e n)
 unfolding operate-lines lines-region
 operates-lines o e n w = at (leb (line-of (e .text) (e .cursor) + n) (line-count (e .text)))
   where
@@ -167,8 +172,8 @@ operates-lines o e n w = at (leb (line-of (e .text) (e .cursor) + n) (line-count
 
     lines-fit : Fits (e .text) lines
     lines-fit =
-        record { from = omega (arith, line-start-down (e .text) (e .cursor)); order = λ _. omega (arith, line-start-nth (e .text) (e .cursor) (n - 1) w, line-end-up (e .text) (nth-line (e .text) (line-of (e .text) (e .cursor) + (n - 1)))) }
+        record { from = omega (arith, line-start-down (e .text) (e .cursor)); order = λ _. omega (arith, line-start-nth (e .text) (e .cursor) (n - 1) (w .within), line-end-up (e .text) (nth-line (e .text) (line-of (e .text) (e .cursor) + (n - 1)))) }
 
     at : (b : Bool) → Outcome e (behind-operator o) (elim (cond {A = Option Region} b (some lines) none) [ none ↦ cancel e | some r ↦ operate o e r ])
     at true = operates o e lines lines-fit w
-    at false = cancels e _
+    at false = cancels e _ w

@@ -13,11 +13,12 @@ pub data Phase : Type 0 where
 abbrev pub phase : Ed → Phase
 phase e = cond (e .inserting) typing (waiting (e .command .pending))
 
--- what becomes of the command at a key: it goes on, it is over, or it was one that undoes or redoes
+-- what becomes of the command at a key: it goes on, or it is over; u and control R apart
 pub data Next : Type 0 where
   goes-on : Phase → Next
   over : Next
-  moves : Next
+  back : Next
+  forth : Next
 
 abbrev pub behind-operator : Operator → Next
 behind-operator delete = over
@@ -39,8 +40,8 @@ behind-action insert-at-first-nonblank = goes-on typing
 behind-action insert-at-line-end = goes-on typing
 behind-action insert-line-below = goes-on typing
 behind-action insert-line-above = goes-on typing
-behind-action go-back = moves
-behind-action go-forth = moves
+behind-action go-back = back
+behind-action go-forth = forth
 
 abbrev pub behind-argument : Argument → Prefix → Next
 behind-argument byte-to-find p = behind-motion p
