@@ -8,3 +8,4 @@ pub mod Phases
 pub mod Outcomes
 pub mod Actions
 pub mod KeyOutcomes
+pub mod Histories
