@@ -9,3 +9,4 @@ pub mod Outcomes
 pub mod Actions
 pub mod KeyOutcomes
 pub mod Histories
+pub mod Sound
