@@ -10,3 +10,5 @@ pub mod Actions
 pub mod KeyOutcomes
 pub mod Histories
 pub mod Sound
+pub mod KeysSound
+pub mod UndoAll

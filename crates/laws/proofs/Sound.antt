@@ -55,7 +55,7 @@ pub record Sound (s : Text) (e : Ed) : Type 0 where
 -- The end of a command.
 
 -- the keys that . types behind it
-abbrev kept-keys : Ed → List Change → List ℕ
+abbrev pub kept-keys : Ed → List Change → List ℕ
 kept-keys e [] = e .last-keys
 kept-keys e (c ∷ cs) = e .command .keys
 
@@ -64,7 +64,7 @@ unfolding recorded
 recorded-keys e [] = refl
 recorded-keys e (c ∷ cs) = refl
 
-finish-keys : (e : Ed) (cs : List Change) → e .command .changes ≡ cs → finish e .last-keys ≡ kept-keys e cs
+pub finish-keys : (e : Ed) (cs : List Change) → e .command .changes ≡ cs → finish e .last-keys ≡ kept-keys e cs
 unfolding finish
 finish-keys e cs n = ap (λ ds. recorded e ds .last-keys) n ∙ recorded-keys e cs
 

@@ -1,0 +1,23 @@
+//! Undo and redo: nothing is lost by them.
+ghost use Rattle.spec.specs.Promises.{Back-and-forth, All-back, All-forth};
+
+/// What was undone and redone is as it was.
+pub fn back_and_forth() -> u8
+    ensures { λ _. ⌜ Back-and-forth ⌝ }
+{
+    0
+}
+
+/// Everything can be undone to the first text.
+pub fn all_back() -> u8
+    ensures { λ _. ⌜ All-back ⌝ }
+{
+    0
+}
+
+/// And redone again.
+pub fn all_forth() -> u8
+    ensures { λ _. ⌜ All-forth ⌝ }
+{
+    0
+}
