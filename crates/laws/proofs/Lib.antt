@@ -12,3 +12,4 @@ pub mod Histories
 pub mod Sound
 pub mod KeysSound
 pub mod UndoAll
+pub mod UndoKeys

@@ -101,14 +101,14 @@ stays-same e w q = record { within = w; changes = q; keys = refl; last-keys = re
 stays-then : (e f g : Ed) → Stays e f → Stays f g → Stays e g
 stays-then e f g x y = record { within = y .within; changes = y .changes; keys = y .keys ∙ x .keys; last-keys = y .last-keys ∙ x .last-keys; register = y .register ∙ x .register }
 
-undo-stays : (e : Ed) → Within e → e .command .changes ≡ [] → Stays e (undo-once e)
+pub undo-stays : (e : Ed) → Within e → e .command .changes ≡ [] → Stays e (undo-once e)
 undo-stays e w q = at (e .undo) refl
   where
     at : (us : List UndoUnit) → e .undo ≡ us → Stays e (undo-once e)
     at [] n = rw (undo-none e n) (stays-same e w q)
     at (u ∷ us) n = rw (undo-some e u us n) (record { within = clamp-within _ _; changes = refl; keys = refl; last-keys = refl; register = refl })
 
-redo-stays : (e : Ed) → Within e → e .command .changes ≡ [] → Stays e (redo-once e)
+pub redo-stays : (e : Ed) → Within e → e .command .changes ≡ [] → Stays e (redo-once e)
 redo-stays e w q = at (e .redo) refl
   where
     at : (us : List UndoUnit) → e .redo ≡ us → Stays e (redo-once e)

@@ -10,7 +10,7 @@ use Rattle.spec.specs.Editor.{Change, UndoUnit, Ed}
 use Rattle.spec.specs.History.{unmade, remade, undo-once, redo-once}
 use Rattle.spec.specs.Promises.{Reachable, Reachable-from, Back-and-forth, All-back, All-forth, all-undone}
 use Rattle.laws.proofs.Replacements.{unmade-applies, remade-applies}
-use Rattle.laws.proofs.Histories.{Undo-chain, Redo-chain, Settled, settled-history, with-undone, with-redone, undo-some, redo-none, redo-some, undo-settled}
+use Rattle.laws.proofs.Histories.{Undo-chain, Redo-chain, Settled, settled-history, with-undone, with-redone, undo-none, undo-some, redo-none, redo-some, undo-settled}
 use Rattle.laws.proofs.Sound.{Sound}
 use Rattle.laws.proofs.KeysSound.{reachable-sound, some-sound}
 
@@ -20,10 +20,17 @@ pub record Same (e f : Ed) : Type 0 where
   pub undo : e .undo ≡ f .undo
   pub redo : e .redo ≡ f .redo
 
-same-then : (e f g : Ed) → Same e f → Same f g → Same e g
+pub same-then : (e f g : Ed) → Same e f → Same f g → Same e g
 same-then e f g x y = record { text = x .text ∙ y .text; undo = x .undo ∙ y .undo; redo = x .redo ∙ y .redo }
 
-redo-same : (e f : Ed) → Same e f → Same (redo-once e) (redo-once f)
+pub undo-same : (e f : Ed) → Same e f → Same (undo-once e) (undo-once f)
+undo-same e f x = at (f .undo) refl
+  where
+    at : (us : List UndoUnit) → f .undo ≡ us → Same (undo-once e) (undo-once f)
+    at [] n = rw (undo-none e (x .undo ∙ n), undo-none f n) x
+    at (u ∷ us) n = rw (undo-some e u us (x .undo ∙ n), undo-some f u us n) (record { text = ap (unmade (u .changes)) (x .text); undo = refl; redo = ap {B = List UndoUnit} (λ vs. u ∷ vs) (x .redo) })
+
+pub redo-same : (e f : Ed) → Same e f → Same (redo-once e) (redo-once f)
 redo-same e f x = at (f .redo) refl
   where
     at : (us : List UndoUnit) → f .redo ≡ us → Same (redo-once e) (redo-once f)

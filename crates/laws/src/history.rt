@@ -1,5 +1,6 @@
 //! Undo and redo: nothing is lost by them.
 ghost use Rattle.spec.specs.Promises.{Back-and-forth, All-back, All-forth};
+ghost use Rattle.spec.specs.HistoryLaws.{Undo-key-redo-key};
 
 /// What was undone and redone is as it was.
 pub fn back_and_forth() -> u8
@@ -18,6 +19,13 @@ pub fn all_back() -> u8
 /// And redone again.
 pub fn all_forth() -> u8
     ensures { λ _. ⌜ All-forth ⌝ }
+{
+    0
+}
+
+/// Where a command may begin, what u undoes control R redoes, and what control R redoes u undoes.
+pub fn undo_key_redo_key() -> u8
+    ensures { λ _. ⌜ Undo-key-redo-key ⌝ }
 {
     0
 }
