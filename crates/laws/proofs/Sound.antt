@@ -32,25 +32,34 @@ If-goes-on over P Q = Q
 If-goes-on back P Q = ⊥
 If-goes-on forth P Q = ⊥
 
--- keys for . to type: none but the last ends the command, and none undoes or redoes
-abbrev pub Repeatable : Phase → List ℕ → Type 0
-Repeatable p [] = Unit {0}
-Repeatable p (k ∷ ks) = If-goes-on (next p k) (λ q. Repeatable q ks) (ks ≡ [])
+-- keys of which the last ends a command, none before it does, and none undoes or redoes
+abbrev pub Complete : Phase → List ℕ → Type 0
+Complete p [] = ⊥
+Complete p (k ∷ ks) = If-goes-on (next p k) (λ q. Complete q ks) (ks ≡ [])
+
+-- keys for . to type, or none
+abbrev pub Repeatable : List ℕ → Type 0
+Repeatable [] = Unit {0}
+Repeatable (k ∷ ks) = Complete start (k ∷ ks)
 
 leads-more : (p q r : Phase) (ks : List ℕ) (k : ℕ) → Leads p ks q → next q k ≡ goes-on r → Leads p (ks ++ (k ∷ [])) r
 leads-more p q r [] k l n = (r, ap (λ x. next x k) l ∙ n, refl)
 leads-more p q r (j ∷ ks) k (m, a, l) n = (m, a, leads-more m q r ks k l n)
 
-leads-over : (p q : Phase) (ks : List ℕ) (k : ℕ) → Leads p ks q → next q k ≡ over → Repeatable p (ks ++ (k ∷ []))
+leads-over : (p q : Phase) (ks : List ℕ) (k : ℕ) → Leads p ks q → next q k ≡ over → Complete p (ks ++ (k ∷ []))
 leads-over p q [] k l n = rw (ap (λ x. next x k) l ∙ n) refl
 leads-over p q (j ∷ ks) k (m, a, l) n = rw a (leads-over m q ks k l n)
+
+repeatable : (ks : List ℕ) → Complete start ks → Repeatable ks
+repeatable [] c = tt
+repeatable (k ∷ ks) c = c
 
 pub record Sound (s : Text) (e : Ed) : Type 0 where
   pub within : Within e
   pub quiet : e .inserting ≡ false → e .command .changes ≡ []
   pub history : History s e
   pub keys : Leads start (e .command .keys) (phase e)
-  pub last-keys : Repeatable start (e .last-keys)
+  pub last-keys : Repeatable (e .last-keys)
 
 -- The end of a command.
 
@@ -79,7 +88,7 @@ finish-within e w =
     let p = recorded-place e (e .command .changes) in
     rw (p .0, p .1) w
 
-pub closed-sound : (s : Text) (e : Ed) (c : ℕ) → Within e → History s e → Repeatable start (finish e .last-keys) → Sound s (closed e c)
+pub closed-sound : (s : Text) (e : Ed) (c : ℕ) → Within e → History s e → Repeatable (finish e .last-keys) → Sound s (closed e c)
 unfolding finish
 closed-sound s e c w h r =
     let t : Settled s (finish e) = finish-settled s e h in
@@ -126,12 +135,12 @@ module _ (f : Ed → Ed) (stays : (e : Ed) → Within e → e .command .changes 
   times-sound s p zero e h = h
   times-sound s p (suc n) e h = times-sound s p n (f e) (p e h)
 
-  pub finished-times-sound : (s : Text) → ((e : Ed) → Settled s e → Settled s (f e)) → (n : ℕ) (e : Ed) → Within e → e .command .changes ≡ [] → History s e → Repeatable start (e .last-keys) → Sound s (finish (times n f e))
+  pub finished-times-sound : (s : Text) → ((e : Ed) → Settled s e → Settled s (f e)) → (n : ℕ) (e : Ed) → Within e → e .command .changes ≡ [] → History s e → Repeatable (e .last-keys) → Sound s (finish (times n f e))
   unfolding finish
   finished-times-sound s p n e w q h r =
       let g : Ed = times n f e in
       let x : Stays e g = times-stays n e w q in
-      closed-sound s g (finish g .kept-column) (x .within) (history-settled s g (x .changes) (times-sound s p n e (settled-history s e q h))) (subst (Repeatable start) (sym (finish-keys g [] (x .changes) ∙ x .last-keys)) r)
+      closed-sound s g (finish g .kept-column) (x .within) (history-settled s g (x .changes) (times-sound s p n e (settled-history s e q h))) (subst Repeatable (sym (finish-keys g [] (x .changes) ∙ x .last-keys)) r)
 
 -- One key.
 
@@ -144,7 +153,7 @@ module _ (s : Text) (e : Ed) (k : ℕ) (sound : Sound s e) where
   unfolding noted
   noted-quiet i = sound .quiet i
 
-  noted-repeatable : Repeatable start (noted e k .last-keys)
+  noted-repeatable : Repeatable (noted e k .last-keys)
   unfolding noted
   noted-repeatable = sound .last-keys
 
@@ -182,11 +191,11 @@ module _ (s : Text) (e : Ed) (k : ℕ) (sound : Sound s e) where
 
   ends-sound : (f : Ed) (c : ℕ) → over ≡ next (phase e) k → Edits (noted e k) f → Within f → Sound s (closed f c)
   ends-sound f c n x w =
-      closed-sound s f c w (edits-history s (noted e k) f x noted-history) (subst (Repeatable start) (sym (finish-keys f (f .command .changes) refl)) (kept (f .command .changes)))
+      closed-sound s f c w (edits-history s (noted e k) f x noted-history) (subst Repeatable (sym (finish-keys f (f .command .changes) refl)) (kept (f .command .changes)))
     where
-      kept : (cs : List Change) → Repeatable start (kept-keys f cs)
+      kept : (cs : List Change) → Repeatable (kept-keys f cs)
       kept [] = rw (x .last-keys) noted-repeatable
-      kept (d ∷ ds) = rw (x .keys, noted-keys) (leads-over start (phase e) (e .command .keys) k (sound .keys) (sym n))
+      kept (d ∷ ds) = rw (x .keys, noted-keys) (repeatable (e .command .keys ++ (k ∷ [])) (leads-over start (phase e) (e .command .keys) k (sound .keys) (sym n)))
 
   outcome-sound : {x : Next} {f : Ed} → x ≡ next (phase e) k → Outcome (noted e k) x f → Sound s f
   outcome-sound n (waits q w) = waits-sound q n w
