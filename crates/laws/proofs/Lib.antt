@@ -13,3 +13,4 @@ pub mod Sound
 pub mod KeysSound
 pub mod UndoAll
 pub mod UndoKeys
+pub mod UndoBytes
