@@ -14,3 +14,4 @@ pub mod KeysSound
 pub mod UndoAll
 pub mod UndoKeys
 pub mod UndoBytes
+pub mod Accounts
