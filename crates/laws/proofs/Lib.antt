@@ -15,3 +15,4 @@ pub mod UndoAll
 pub mod UndoKeys
 pub mod UndoBytes
 pub mod Accounts
+pub mod Progress

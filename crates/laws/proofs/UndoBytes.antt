@@ -19,7 +19,7 @@ unfolding key-of
 forth-byte k h = grind (arith, tells)
 
 -- what is neither
-data Onward : Next → Type 0 where
+pub data Onward : Next → Type 0 where
   goes : {p : Phase} → Onward (goes-on p)
   is-over : Onward over
 
@@ -43,7 +43,7 @@ onward-either true x y p q = p
 onward-either false x y p q = q
 
 -- what is said of a key, and what that says of the byte
-data Told (k : ℕ) : Next → Type 0 where
+pub data Told (k : ℕ) : Next → Type 0 where
   onward : {x : Next} → Onward x → Told k x
   undoing : k ≡ ascii "u" → Told k back
   redoing : k ≡ control-r → Told k forth
@@ -73,7 +73,7 @@ told-key k (operating o c m) (action a) n = onward is-over
 told-key k p repeat n = onward is-over
 told-key k p no-command n = onward is-over
 
-told : (p : Phase) (k : ℕ) → Told k (next p k)
+pub told : (p : Phase) (k : ℕ) → Told k (next p k)
 told typing k = onward (onward-either (eqb k escape) _ _ is-over goes)
 told (waiting (ready p)) k = told-key k p (key-of k) refl
 told (waiting (awaiting a p)) k = onward (onward-either (eqb k escape) _ _ is-over (onward-argument a p))
