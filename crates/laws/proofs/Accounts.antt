@@ -127,16 +127,16 @@ redo-undone s e h = at (e .redo) refl
         let again : undo-once (with-redone e u us) ≡ with-undone (with-redone e u us) u (e .undo) = undo-some (with-redone e u us) u (e .undo) refl in
         rw (redo-some e u us n) (unit-undone (with-redone e u us) e u refl n (sym same ∙ ap (λ f. undo-once f .text) (redo-some e u us n) ∙ ap (λ f. f .text) again) refl)
 
-undo-times : (s : Text) (n : ℕ) (e : Ed) → Settled s e → Undone e (times n undo-once e)
+pub undo-times : (s : Text) (n : ℕ) (e : Ed) → Settled s e → Undone e (times n undo-once e)
 undo-times s zero e h = undone-none e
 undo-times s (suc n) e h = undone-then e (undo-once e) _ (undo-undone s e h) (undo-times s n (undo-once e) (undo-settled s e h))
 
-redo-times : (s : Text) (n : ℕ) (e : Ed) → Settled s e → Undone (times n redo-once e) e
+pub redo-times : (s : Text) (n : ℕ) (e : Ed) → Settled s e → Undone (times n redo-once e) e
 redo-times s zero e h = undone-none e
 redo-times s (suc n) e h = undone-then _ (redo-once e) e (redo-times s n (redo-once e) (redo-settled s e h)) (redo-undone s e h)
 
 -- of which only the text, undo and redo matter
-undone-same : (e f d g : Ed) → Same e d → Same f g → Undone e f → Undone d g
+pub undone-same : (e f d g : Ed) → Same e d → Same f g → Undone e f → Undone d g
 undone-same e f d g x y u =
     record {
       units = u .units;

@@ -16,3 +16,5 @@ pub mod UndoKeys
 pub mod UndoBytes
 pub mod Accounts
 pub mod Progress
+pub mod Replays
+pub mod OnlyChanges

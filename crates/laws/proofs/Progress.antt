@@ -78,7 +78,7 @@ pub scrolled-progress : (e : Ed) → Progress e (scrolled e)
 unfolding scrolled
 scrolled-progress e = stays-progress e _ refl refl refl refl refl
 
-outcome-progress : (e : Ed) {x : Next} {f : Ed} → Onward x → Outcome e x f → Progress e f
+pub outcome-progress : (e : Ed) {x : Next} {f : Ed} → Onward x → Outcome e x f → Progress e f
 outcome-progress e o (waits q w) = stays-progress e _ refl refl refl refl refl
 outcome-progress e o (types x w i) = edits-progress e _ x
 outcome-progress e o (refuses c w) = closed-progress e c

@@ -145,11 +145,11 @@ module _ (f : Ed → Ed) (stays : (e : Ed) → Within e → e .command .changes 
 -- One key.
 
 module _ (s : Text) (e : Ed) (k : ℕ) (sound : Sound s e) where
-  noted-history : History s (noted e k)
+  pub noted-history : History s (noted e k)
   unfolding noted
   noted-history = record { start = sound .history .start; undo = sound .history .undo; changes = sound .history .changes; redo = sound .history .redo }
 
-  noted-quiet : noted e k .inserting ≡ false → noted e k .command .changes ≡ []
+  pub noted-quiet : noted e k .inserting ≡ false → noted e k .command .changes ≡ []
   unfolding noted
   noted-quiet i = sound .quiet i
 
@@ -157,7 +157,7 @@ module _ (s : Text) (e : Ed) (k : ℕ) (sound : Sound s e) where
   unfolding noted
   noted-repeatable = sound .last-keys
 
-  noted-keys : noted e k .command .keys ≡ e .command .keys ++ (k ∷ [])
+  pub noted-keys : noted e k .command .keys ≡ e .command .keys ++ (k ∷ [])
   unfolding noted
   noted-keys = refl
 

@@ -20,6 +20,9 @@ pub record Same (e f : Ed) : Type 0 where
   pub undo : e .undo ≡ f .undo
   pub redo : e .redo ≡ f .redo
 
+pub same-back : (e f : Ed) → Same e f → Same f e
+same-back e f x = record { text = sym (x .text); undo = sym (x .undo); redo = sym (x .redo) }
+
 pub same-then : (e f g : Ed) → Same e f → Same f g → Same e g
 same-then e f g x y = record { text = x .text ∙ y .text; undo = x .undo ∙ y .undo; redo = x .redo ∙ y .redo }
 

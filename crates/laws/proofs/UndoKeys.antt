@@ -56,13 +56,13 @@ recorded-none : (e : Ed) (cs : List Change) → cs ≡ [] → recorded e cs ≡ 
 unfolding recorded
 recorded-none e cs n = ap (recorded e) n
 
-finished-same : (e : Ed) → e .command .changes ≡ [] → Same (scrolled (finish e)) e
+pub finished-same : (e : Ed) → e .command .changes ≡ [] → Same (scrolled (finish e)) e
 unfolding scrolled finish
 finished-same e n =
     let r : recorded e (e .command .changes) ≡ e = recorded-none e (e .command .changes) n in
     record { text = ap (λ f. f .text) r; undo = ap (λ f. f .undo) r; redo = ap (λ f. f .redo) r }
 
-noted-same : (e : Ed) (k : ℕ) → Same (noted e k) e
+pub noted-same : (e : Ed) (k : ℕ) → Same (noted e k) e
 unfolding noted
 noted-same e k = record { text = refl; undo = refl; redo = refl }
 

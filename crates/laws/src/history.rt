@@ -1,6 +1,6 @@
 //! Undo and redo: nothing is lost by them.
 ghost use Rattle.spec.specs.Promises.{Back-and-forth, All-back, All-forth};
-ghost use Rattle.spec.specs.HistoryLaws.{Undo-key-redo-key};
+ghost use Rattle.spec.specs.HistoryLaws.{Only-changes-change, Undo-key-redo-key};
 
 /// What was undone and redone is as it was.
 pub fn back_and_forth() -> u8
@@ -19,6 +19,14 @@ pub fn all_back() -> u8
 /// And redone again.
 pub fn all_forth() -> u8
     ensures { λ _. ⌜ All-forth ⌝ }
+{
+    0
+}
+
+/// What a key does to the text is to make the changes that it records, or, of u and control R, to unmake or remake the units
+/// that it moves.
+pub fn only_changes_change() -> u8
+    ensures { λ _. ⌜ Only-changes-change ⌝ }
 {
     0
 }
