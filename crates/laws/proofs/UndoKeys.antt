@@ -22,35 +22,35 @@ use Rattle.laws.proofs.Sound.{Sound, Stays, undo-stays, redo-stays}
 use Rattle.laws.proofs.KeysSound.{key-sound, some-sound}
 use Rattle.laws.proofs.UndoAll.{Same, same-then, redo-same, undo-same, undone-redone, redone-undone, sound-settled}
 
--- a key where a command may begin
-module _ (e : Ed) (k : ℕ) (i : e .inserting ≡ false) (p : e .command .pending ≡ no-prefix) where
-  normal-first : normal-key (noted e k) k ≡ command-key (noted e k) (counting 0) (key-of k)
+-- a key where a command may begin, perhaps behind a count
+module _ (e : Ed) (k n : ℕ) (i : e .inserting ≡ false) (p : e .command .pending ≡ ready (counting n)) where
+  normal-first : normal-key (noted e k) k ≡ command-key (noted e k) (counting n) (key-of k)
   unfolding normal-key noted
   normal-first =
       ap (λ (q : Pending). elim q [ ready r ↦ command-key (noted e k) r (key-of k) | awaiting a r ↦ cond (eqb k escape) (cancel (noted e k)) (argument-key (noted e k) a r k) ]) p
 
-  typed-first : typed-key e k ≡ command-key (noted e k) (counting 0) (key-of k)
+  pub typed-first : typed-key e k ≡ command-key (noted e k) (counting n) (key-of k)
   unfolding typed-key
   typed-first = cond-false (e .inserting) _ _ i ∙ normal-first
 
   no-repeat : eqb k (ascii ".") ≡ false → repeats e k ≡ false
   unfolding repeats
-  no-repeat n = rw (i, n) refl
+  no-repeat q = rw (i, q) refl
 
-  key-first : eqb k (ascii ".") ≡ false → key e k ≡ scrolled (command-key (noted e k) (counting 0) (key-of k))
+  pub key-first : eqb k (ascii ".") ≡ false → key e k ≡ scrolled (typed-key e k)
   unfolding key
-  key-first n = ap scrolled (cond-false (repeats e k) _ (typed-key e k) (no-repeat n) ∙ typed-first)
+  key-first q = ap scrolled (cond-false (repeats e k) _ (typed-key e k) (no-repeat q))
 
 some-left : (us : List UndoUnit) → 0 < length us → eqb (length us) 0 ≡ false
 some-left us h = ne-eqb (length us) 0 (λ n. omega arith)
 
 key-back : (e : Ed) → e .inserting ≡ false → e .command .pending ≡ no-prefix → 0 < length (e .undo) → key e (ascii "u") ≡ scrolled (finish (undo-once (noted e (ascii "u"))))
 unfolding command-key key-of run-action undo-by noted
-key-back e i p h = key-first e (ascii "u") i p refl ∙ ap scrolled (cond-false (eqb (length (e .undo)) 0) _ _ (some-left (e .undo) h))
+key-back e i p h = key-first e (ascii "u") 0 i p refl ∙ ap scrolled (typed-first e (ascii "u") 0 i p ∙ cond-false (eqb (length (e .undo)) 0) _ _ (some-left (e .undo) h))
 
 key-forth : (e : Ed) → e .inserting ≡ false → e .command .pending ≡ no-prefix → 0 < length (e .redo) → key e control-r ≡ scrolled (finish (redo-once (noted e control-r)))
 unfolding command-key key-of run-action redo-by noted
-key-forth e i p h = key-first e control-r i p refl ∙ ap scrolled (cond-false (eqb (length (e .redo)) 0) _ _ (some-left (e .redo) h))
+key-forth e i p h = key-first e control-r 0 i p refl ∙ ap scrolled (typed-first e control-r 0 i p ∙ cond-false (eqb (length (e .redo)) 0) _ _ (some-left (e .redo) h))
 
 recorded-none : (e : Ed) (cs : List Change) → cs ≡ [] → recorded e cs ≡ e
 unfolding recorded

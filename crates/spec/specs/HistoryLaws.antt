@@ -1,16 +1,18 @@
 -- More on history: nothing changes the text that it doesn't know, u and control R undo each other, and what editors weigh on the way.
 use mathlib.Core.Path.{_≡_}
 use mathlib.Core.Logic.{_⊎_}
-use mathlib.Core.Bool.{false}
+use mathlib.Core.Bool.{true, false}
 use mathlib.Core.List.{List, [], _∷_, _++_, reverse}
-use Prim.Native.Nat.{ℕ, _+_, _<_}
+use Prim.Native.Nat.{ℕ, suc, _+_, _-_, _*_, _≤_, _<_, max}
 use lib.ListN.{length}
 use Rattle.spec.specs.Bytes.{ascii, control-r}
-use Rattle.spec.specs.Keys.{no-prefix}
+use Rattle.spec.specs.Motions.{times, or-one}
+use Rattle.spec.specs.Keys.{Action, join-lines, go-back, go-forth, action, key-of, ready, counting, no-prefix}
 use Rattle.spec.specs.Editor.{Change, UndoUnit, Ed}
-use Rattle.spec.specs.History.{unmade, remade}
-use Rattle.spec.specs.Dispatch.{key}
-use Rattle.spec.specs.Promises.{Reachable, changes-weight, units-weight}
+use Rattle.spec.specs.History.{cancel, unmade, remade, undo-once, redo-once}
+use Rattle.spec.specs.Commands.{join-once}
+use Rattle.spec.specs.Dispatch.{noted, typed-key, replay, repeats, pending-count, key}
+use Rattle.spec.specs.Promises.{Reachable, changes-weight, units-weight, weight}
 
 -- the changes of units, in their order
 abbrev pub unit-changes : List UndoUnit → List Change
@@ -66,6 +68,49 @@ pub record Undo-key-redo-key : Type 0 where
   pub back-and-forth : (e : Ed) → Ready e → 0 < length (e .undo) → Restored e (key (key e (ascii "u")) control-r)
   pub forth-and-back : (e : Ed) → Ready e → 0 < length (e .redo) → Restored e (key (key e control-r) (ascii "u"))
 
+-- What editors weigh on the way of a key.
+
+-- a key that is a command of one key, with a count or 0 for none
+pub record Runs (e : Ed) (k n : ℕ) (a : Action) : Type 0 where
+  pub not-inserting : e .inserting ≡ false
+  pub counted : e .command .pending ≡ ready (counting n)
+  pub acts : key-of k ≡ action a
+
+-- behind each line joined
+pub data Joining (e : Ed) (k : ℕ) : Ed → Type 0 where
+  joined : (n j : ℕ) → Runs e k n join-lines → j ≤ max 1 (or-one n - 1) → Joining e k (times j join-once (noted e k))
+
+-- behind each key of a command that is typed again, and on the way of it
+pub data Replaying : Ed → List ℕ → Ed → Type 0 where
+  during : {e f : Ed} {k : ℕ} {ks : List ℕ} → Joining e k f → Replaying e (k ∷ ks) f
+  behind : {e : Ed} {k : ℕ} {ks : List ℕ} → Replaying e (k ∷ ks) (typed-key e k)
+  further : {e f : Ed} {k : ℕ} {ks : List ℕ} → 0 < length (typed-key e k .command .keys) → Replaying (typed-key e k) ks f → Replaying e (k ∷ ks) f
+
+-- a repeat so far: the last change typed again i times
+abbrev pub repeated : Ed → ℕ → Ed
+repeated e i = times i (λ f. replay f (e .last-keys)) (cancel e)
+
+-- the editors on the way of a repeat, and of a key that joins lines
+pub data Passed (e : Ed) (k : ℕ) : Ed → Type 0 where
+  joining : {f : Ed} → Joining e k f → Passed e k f
+  replayed : (i : ℕ) → repeats e k ≡ true → i ≤ or-one (pending-count (e .command .pending)) → Passed e k (repeated e i)
+  replaying : {f : Ed} (i : ℕ) → repeats e k ≡ true → i < or-one (pending-count (e .command .pending)) → Replaying (repeated e i) (e .last-keys) f → Passed e k f
+
+-- the editors on the way of u and control R: behind each unit undone or redone
+pub data Moved (e : Ed) (k : ℕ) : Ed → Type 0 where
+  undoing : (n j : ℕ) → Runs e k n go-back → j ≤ or-one n → Moved e k (times j undo-once (noted e k))
+  redoing : (n j : ℕ) → Runs e k n go-forth → j ≤ or-one n → Moved e k (times j redo-once (noted e k))
+
 -- of an editor's weight, what only undo and redo make less: the text, and the changes that can be undone
 abbrev pub recorded-weight : Ed → ℕ
 recorded-weight e = length (e .text) + (changes-weight (e .command .changes) + units-weight (e .undo))
+
+-- an editor between two others: what is recorded doesn't become less, and it weighs no more than the first and twice the last, and 1 for the key
+pub record Between (e f g : Ed) : Type 0 where
+  pub from : recorded-weight e ≤ recorded-weight f
+  pub to : recorded-weight f ≤ recorded-weight g
+  pub bound : weight f ≤ suc (weight e + 2 * weight g)
+
+pub record Between-is-bounded : Type 0 where
+  pub passed : (e f : Ed) (k : ℕ) → Reachable e → Passed e k f → Between e f (key e k)
+  pub moved : (e f : Ed) (k : ℕ) → Reachable e → Moved e k f → weight f ≤ suc (weight e + weight (key e k))
