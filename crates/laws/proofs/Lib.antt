@@ -18,3 +18,4 @@ pub mod Accounts
 pub mod Progress
 pub mod Replays
 pub mod OnlyChanges
+pub mod OnTheWay
