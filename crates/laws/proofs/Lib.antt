@@ -19,3 +19,4 @@ pub mod Progress
 pub mod Replays
 pub mod OnlyChanges
 pub mod OnTheWay
+pub mod Passing

@@ -61,13 +61,13 @@ module _ (s : Text) (ks typed rest : List ℕ) (e : Ed) (k : ℕ) (r : Replaying
   pub replaying-progress : Progress e (typed-key e k)
   replaying-progress = typed-progress e k (r .sound .within) replaying-onward
 
-  more : noted e k .command .keys ≡ typed ++ (k ∷ [])
+  pub more : noted e k .command .keys ≡ typed ++ (k ∷ [])
   more = noted-keys s e k (r .sound) ∙ ap {B = List ℕ} (λ js. js ++ (k ∷ [])) (r .keys)
 
-  same : noted e k .last-keys ≡ ks
+  pub same : noted e k .last-keys ≡ ks
   same = noted-last-keys e k ∙ r .last-keys
 
-  parts-more : ks ≡ (typed ++ (k ∷ [])) ++ rest
+  pub parts-more : ks ≡ (typed ++ (k ∷ [])) ++ rest
   parts-more = r .parts ∙ sym (append-assoc typed (k ∷ []) rest)
 
   -- the command goes on
@@ -111,11 +111,11 @@ open-keys : (typed : List ℕ) (k : ℕ) (e : Ed) → e .command .keys ≡ typed
 open-keys typed k e n = omega (arith, ap length n, length-append typed (k ∷ []))
 
 module _ (s : Text) (ks : List ℕ) where
-  stepped-ended : (typed rest : List ℕ) (k : ℕ) (e : Ed) → Stepped s ks (typed ++ (k ∷ [])) rest e → length (e .command .keys) ≡ 0 → Replayed s ks e
+  pub stepped-ended : (typed rest : List ℕ) (k : ℕ) (e : Ed) → Stepped s ks (typed ++ (k ∷ [])) rest e → length (e .command .keys) ≡ 0 → Replayed s ks e
   stepped-ended typed rest k e (ended r) n = r
   stepped-ended typed rest k e (going r) n = absurd (omega (arith, open-keys typed k e (r .keys)))
 
-  stepped-going : (typed rest : List ℕ) (k : ℕ) (e : Ed) → Stepped s ks (typed ++ (k ∷ [])) rest e → (length (e .command .keys) ≡ 0 → ⊥) → Replaying s ks (typed ++ (k ∷ [])) rest e
+  pub stepped-going : (typed rest : List ℕ) (k : ℕ) (e : Ed) → Stepped s ks (typed ++ (k ∷ [])) rest e → (length (e .command .keys) ≡ 0 → ⊥) → Replaying s ks (typed ++ (k ∷ [])) rest e
   stepped-going typed rest k e (ended r) n = absurd (n (ap length (r .keys)))
   stepped-going typed rest k e (going r) n = r
 
@@ -128,7 +128,7 @@ module _ (s : Text) (ks : List ℕ) where
       let t : Stepped s ks (typed ++ (k ∷ [])) rest f = typed-stepped s ks typed rest e k r in
       cond-both (eqb (length (f .command .keys)) 0) f (replay f rest) (Done s ks e) (λ n. record { progress = x; replayed = stepped-ended typed rest k f t (eqb-true _ 0 n) }) (λ n. done-then s ks e f _ x (replaying-done rest (typed ++ (k ∷ [])) f (stepped-going typed rest k f t (eqb-false _ 0 n))))
 
-  replay-begins : (k : ℕ) (rest : List ℕ) (e : Ed) → ks ≡ k ∷ rest → Replayed s ks e → Replaying s ks [] ks e
+  pub replay-begins : (k : ℕ) (rest : List ℕ) (e : Ed) → ks ≡ k ∷ rest → Replayed s ks e → Replaying s ks [] ks e
   replay-begins k rest e n r =
       let p : start ≡ phase e = subst (λ js. Leads start js (phase e)) (r .keys) (r .sound .keys) in
       let c : Complete start (k ∷ rest) = subst Repeatable (r .last-keys ∙ n) (r .sound .last-keys) in

@@ -58,7 +58,7 @@ redone-undone s e u us h n =
 
 -- All of it.
 
-times-last : (n : ℕ) (f : Ed → Ed) (e : Ed) → times (suc n) f e ≡ f (times n f e)
+pub times-last : (n : ℕ) (f : Ed → Ed) (e : Ed) → times (suc n) f e ≡ f (times n f e)
 times-last zero f e = refl
 times-last (suc n) f e = times-last n f (f e)
 
