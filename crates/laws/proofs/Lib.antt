@@ -20,3 +20,4 @@ pub mod Replays
 pub mod OnlyChanges
 pub mod OnTheWay
 pub mod Passing
+pub mod MovedWeights

@@ -131,7 +131,7 @@ module _ (f : Ed → Ed) (stays : (e : Ed) → Within e → e .command .changes 
       let x : Stays e (f e) = stays e w q in
       stays-then e (f e) (times n f (f e)) x (times-stays n (f e) (x .within) (x .changes))
 
-  times-sound : (s : Text) → ((e : Ed) → Settled s e → Settled s (f e)) → (n : ℕ) (e : Ed) → Settled s e → Settled s (times n f e)
+  pub times-sound : (s : Text) → ((e : Ed) → Settled s e → Settled s (f e)) → (n : ℕ) (e : Ed) → Settled s e → Settled s (times n f e)
   times-sound s p zero e h = h
   times-sound s p (suc n) e h = times-sound s p n (f e) (p e h)
 

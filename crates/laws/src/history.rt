@@ -1,6 +1,6 @@
 //! Undo and redo: nothing is lost by them.
 ghost use Rattle.spec.specs.Promises.{Back-and-forth, All-back, All-forth};
-ghost use Rattle.spec.specs.HistoryLaws.{Only-changes-change, Undo-key-redo-key};
+ghost use Rattle.spec.specs.HistoryLaws.{Only-changes-change, Undo-key-redo-key, Between-is-bounded};
 
 /// What was undone and redone is as it was.
 pub fn back_and_forth() -> u8
@@ -34,6 +34,14 @@ pub fn only_changes_change() -> u8
 /// Where a command may begin, what u undoes control R redoes, and what control R redoes u undoes.
 pub fn undo_key_redo_key() -> u8
     ensures { λ _. ⌜ Undo-key-redo-key ⌝ }
+{
+    0
+}
+
+/// Every editor on the way of a key weighs no more than the editor before it and twice the editor behind it, and 1; and what
+/// is recorded becomes less on no way but that of u and control R.
+pub fn between_is_bounded() -> u8
+    ensures { λ _. ⌜ Between-is-bounded ⌝ }
 {
     0
 }
