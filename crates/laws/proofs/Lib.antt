@@ -21,3 +21,4 @@ pub mod OnlyChanges
 pub mod OnTheWay
 pub mod Passing
 pub mod MovedWeights
+pub mod Witnesses

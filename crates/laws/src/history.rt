@@ -1,6 +1,7 @@
 //! Undo and redo: nothing is lost by them.
 ghost use Rattle.spec.specs.Promises.{Back-and-forth, All-back, All-forth};
 ghost use Rattle.spec.specs.HistoryLaws.{Only-changes-change, Undo-key-redo-key, Between-is-bounded};
+ghost use Rattle.spec.specs.HistoryWitnesses.{History-witnesses};
 
 /// What was undone and redone is as it was.
 pub fn back_and_forth() -> u8
@@ -42,6 +43,13 @@ pub fn undo_key_redo_key() -> u8
 /// is recorded becomes less on no way but that of u and control R.
 pub fn between_is_bounded() -> u8
     ensures { λ _. ⌜ Between-is-bounded ⌝ }
+{
+    0
+}
+
+/// Keys lead to editors to which each of these theorems applies.
+pub fn history_witnesses() -> u8
+    ensures { λ _. ⌜ History-witnesses ⌝ }
 {
     0
 }

@@ -12,3 +12,4 @@ pub mod Terminal
 pub mod Promises
 pub mod HistoryLaws
 pub mod Worked
+pub mod HistoryWitnesses
