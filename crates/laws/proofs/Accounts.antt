@@ -1,22 +1,17 @@
 -- What one key does to the text is what history has of it.
-use mathlib.Core.Path.{_≡_, refl, sym, ap, subst, _∙_}
+use mathlib.Core.Path.{_≡_, refl, sym, ap, _∙_}
 use mathlib.Core.Logic.{_⊎_, inl, inr, ⊎-elim}
-use mathlib.Core.Bool.{Bool, true, false, cond}
 use mathlib.Core.List.{List, [], _∷_, _++_, append-assoc, append-nil, reverse, reverse-append}
 use Prim.Native.Nat.{ℕ, zero, suc}
-use lib.ListN.{length}
 use Rattle.spec.specs.Text.{Text}
 use Rattle.spec.specs.Motions.{times}
-use Rattle.spec.specs.Editor.{Change, UndoUnit, Ed, with-pending, with-kept-column}
+use Rattle.spec.specs.Editor.{Change, UndoUnit, Ed}
 use Rattle.spec.specs.History.{recorded, finish, unmade, remade, undo-once, redo-once}
-use Rattle.spec.specs.Dispatch.{noted, typed-key, scrolled}
-use Rattle.spec.specs.HistoryLaws.{unit-changes, undoable, Made, Undone, Accounted, made, undone, redone}
+use Rattle.spec.specs.HistoryLaws.{unit-changes, undoable, Made, Undone, made}
 use Rattle.laws.proofs.Replacements.{unmade-applies, remade-applies}
 use Rattle.laws.proofs.Edits.{Edits}
-use Rattle.laws.proofs.Phases.{Phase, phase, Next, next}
-use Rattle.laws.proofs.Outcomes.{Within, Idle, closed, Outcome, waits, types, refuses, ends, undoes, redoes}
+use Rattle.laws.proofs.Outcomes.{closed}
 use Rattle.laws.proofs.Histories.{Settled, with-undone, with-redone, undo-none, undo-some, redo-none, redo-some, undo-settled, redo-settled}
-use Rattle.laws.proofs.Sound.{Sound}
 use Rattle.laws.proofs.UndoAll.{Same, undone-redone, redone-undone}
 
 unmade-append : (ds cs : List Change) (t : Text) → unmade (ds ++ cs) t ≡ unmade cs (unmade ds t)

@@ -1,23 +1,23 @@
 -- What becomes of the editor at commands of one key, and while inserting.
-use mathlib.Core.Path.{_≡_, refl, sym, ap, subst, _∙_}
-use mathlib.Core.Bool.{Bool, true, false, _&&_, _||_, not, cond}
-use mathlib.Core.List.{List, [], _∷_, _++_}
-use Prim.Native.Nat.{ℕ, zero, suc, _+_, _-_, _*_, _≤_, _<_, min, max}
+use mathlib.Core.Path.{_≡_}
+use mathlib.Core.Bool.{true, _&&_, _||_, cond}
+use mathlib.Core.List.{[], _∷_, _++_}
+use Prim.Native.Nat.{ℕ, zero, suc, _+_, _-_, _≤_, max}
 use native.Mathlib.Omega.{arith}
-use lib.ListN.{length, replicate, length-append, length-replicate}
+use lib.ListN.{length, replicate, length-replicate}
 use lib.Dec.{eqb, ltb, leb}
-use Rattle.std.proofs.shelf.Tests.{cond-both, false≢true, ltb-true}
+use Rattle.std.proofs.shelf.Tests.{cond-both, false≢true}
 use Rattle.spec.specs.Bytes.{newline, space, tab, return, backspace, rubout, escape, is-blank, is-typeable}
-use Rattle.spec.specs.Text.{Text, copies, skip-forward, line-end, line-start, column, first-nonblank}
-use Rattle.spec.specs.Motions.{Region, times, or-one}
+use Rattle.spec.specs.Text.{Text, copies, skip-forward, line-end, line-start, column}
+use Rattle.spec.specs.Motions.{times, or-one}
 use Rattle.spec.specs.Keys.{Action, delete-chars, join-lines, put-after, put-before, insert-before, insert-after, insert-at-first-nonblank, insert-at-line-end, insert-line-below, insert-line-above, go-back, go-forth}
 use Rattle.spec.specs.Editor.{Ed, with-cursor}
-use Rattle.spec.specs.History.{edit, finish, cancel, undo-once, redo-once}
-use Rattle.spec.specs.Commands.{clamp-cursor, start-insert, delete-region, delete-chars-by, write-over, join-once, join-by, put-lines-below, put-lines-above, put-bytes, put-after-by, put-before-by, insert-at, insert-line, undo-by, redo-by, run-action, type-byte, erase-byte, leave-insert, insert-key}
-use Rattle.laws.proofs.LineBounds.{skip-forward-up, line-start-down, line-end-up, line-end-within, first-nonblank-within, clamp-within}
+use Rattle.spec.specs.History.{edit}
+use Rattle.spec.specs.Commands.{clamp-cursor, delete-chars-by, write-over, join-once, join-by, put-lines-below, put-lines-above, put-bytes, put-after-by, put-before-by, insert-at, insert-line, undo-by, redo-by, run-action, type-byte, erase-byte, leave-insert, insert-key}
+use Rattle.laws.proofs.LineBounds.{skip-forward-up, line-start-down, line-end-within, first-nonblank-within, clamp-within}
 use Rattle.laws.proofs.Edits.{Edits, no-edit, edits-then, moved-edits, edit-edits, edit-length, edit-within}
-use Rattle.laws.proofs.Phases.{Phase, typing, Next, goes-on, over, back, forth, behind-action, next}
-use Rattle.laws.proofs.Outcomes.{Within, Idle, Outcome, types, undoes, redoes, cancels, finishes, starts-insert, either, by-test, Fits, deletes}
+use Rattle.laws.proofs.Phases.{typing, goes-on, over, back, forth, behind-action, next}
+use Rattle.laws.proofs.Outcomes.{Within, Idle, Outcome, types, undoes, redoes, cancels, finishes, starts-insert, either, by-test, deletes}
 
 or-one-positive : (n : ℕ) → 1 ≤ or-one n
 or-one-positive zero = omega arith

@@ -1,16 +1,16 @@
 -- What a command does to the editor before it ends: changes are made and recorded; undo and redo stay.
-use mathlib.Core.Path.{_≡_, refl, sym, ap, subst, _∙_}
-use mathlib.Core.Bool.{Bool, true, false, _&&_, cond}
+use mathlib.Core.Path.{_≡_, refl, sym, ap, _∙_}
+use mathlib.Core.Bool.{_&&_}
 use mathlib.Core.List.{List, [], _∷_, _++_, append-assoc}
-use Prim.Native.Nat.{ℕ, zero, suc, _+_, _-_, _≤_, max}
+use Prim.Native.Nat.{ℕ, _+_, _≤_, max}
 use native.Mathlib.Omega.{arith}
-use lib.ListN.{length, take, drop, length-take, length-drop}
+use lib.ListN.{length, length-take, length-drop}
 use lib.Dec.{eqb}
 use Rattle.std.proofs.shelf.Tests.{cond-both, and-parts, eqb-true}
 use Rattle.lists.proofs.Replaced.{length-replaced}
 use Rattle.spec.specs.Text.{Text, part, replaced}
-use Rattle.spec.specs.Motions.{Region, times}
-use Rattle.spec.specs.Editor.{Change, UndoUnit, Ed, with-text, with-cursor, with-changes}
+use Rattle.spec.specs.Motions.{Region}
+use Rattle.spec.specs.Editor.{Change, Ed, with-text, with-cursor, with-changes}
 use Rattle.spec.specs.History.{edit}
 use Rattle.spec.specs.Commands.{yanked, start-insert}
 use Rattle.spec.specs.Promises.{changes-weight, units-weight}

@@ -1,12 +1,8 @@
 -- A sound history: undo leads back from the text as the command began to the first text, redo leads on from it,
 -- and the open changes lead from it to the text.
-use mathlib.Core.Path.{_≡_, refl, sym, ap, subst, _∙_}
-use mathlib.Core.Bool.{Bool, true, false, cond}
-use mathlib.Core.List.{List, [], _∷_, _++_}
-use Prim.Native.Nat.{ℕ, zero, suc}
-use lib.ListN.{length}
+use mathlib.Core.Path.{_≡_, refl, sym, ap, subst}
+use mathlib.Core.List.{List, [], _∷_}
 use Rattle.spec.specs.Text.{Text, clamp}
-use Rattle.spec.specs.Motions.{times}
 use Rattle.spec.specs.Editor.{Change, UndoUnit, Ed, with-text, with-cursor, with-changes, with-history}
 use Rattle.spec.specs.History.{recorded, finish, unmade, remade, newest-place, undo-once, redo-once}
 use Rattle.laws.proofs.Replacements.{Applies, then, remade-applies, unmade-applies}

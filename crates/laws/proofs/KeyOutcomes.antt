@@ -1,18 +1,16 @@
 -- What becomes of the editor at a key that isn't a repeat.
-use mathlib.Core.Path.{_≡_, refl, sym, ap, subst, _∙_}
+use mathlib.Core.Path.{_≡_, refl}
 use mathlib.Core.Bool.{Bool, true, false, _&&_, not, cond}
-use mathlib.Core.List.{List, [], _∷_, _++_}
 use Prim.Native.Nat.{ℕ}
-use lib.ListN.{length}
 use lib.Dec.{eqb}
 use Rattle.spec.specs.Bytes.{ascii, escape}
 use Rattle.spec.specs.Motions.{to-line-start, to-line-or-first, find, till, or-one}
 use Rattle.spec.specs.Keys.{Operator, same-operator, Argument, byte-to-find, byte-to-stop-before, byte-to-write, second-g, Key, digit, motion, operator, awaiter, action, repeat, no-command, key-of, Prefix, counting, operating, Pending, ready, awaiting, longer-count, has-count, total-count}
-use Rattle.spec.specs.Editor.{Ed, with-pending}
+use Rattle.spec.specs.Editor.{Ed}
 use Rattle.spec.specs.History.{cancel}
-use Rattle.spec.specs.Commands.{run-motion, operate-lines, insert-key}
+use Rattle.spec.specs.Commands.{insert-key}
 use Rattle.spec.specs.Dispatch.{argument-key, digit-key, operator-key, awaiter-key, command-key, normal-key, noted, typed-key}
-use Rattle.laws.proofs.Phases.{Phase, typing, waiting, phase, Next, goes-on, over, behind-operator, behind-motion, behind-argument, behind-key, next}
+use Rattle.laws.proofs.Phases.{typing, waiting, phase, goes-on, over, behind-operator, behind-motion, behind-argument, behind-key, next}
 use Rattle.laws.proofs.Outcomes.{Within, Idle, Outcome, waits, cancels, either, by-test, runs-motion, operates-lines}
 use Rattle.laws.proofs.Actions.{writes-over, runs-action, inserts-key}
 

@@ -1,21 +1,19 @@
 -- Every editor that keys lead to is sound.
-use mathlib.Core.Path.{_≡_, refl, sym, ap, subst, _∙_}
-use mathlib.Core.Bool.{Bool, true, false, _&&_, not, cond}
-use mathlib.Core.List.{List, [], _∷_, _++_}
-use Prim.Native.Nat.{ℕ, zero, suc, _≤_}
+use mathlib.Core.Path.{_≡_, refl}
+use mathlib.Core.Bool.{true, false, not}
+use mathlib.Core.List.{List, [], _∷_}
+use Prim.Native.Nat.{ℕ, zero, suc}
 use native.Mathlib.Omega.{arith}
 use lib.ListN.{length}
 use lib.Dec.{eqb}
 use Rattle.std.proofs.shelf.Tests.{cond-both, and-parts, not-true}
-use Rattle.spec.specs.Bytes.{ascii}
 use Rattle.spec.specs.Text.{Text}
 use Rattle.spec.specs.Motions.{times, or-one}
 use Rattle.spec.specs.Editor.{Ed, initial}
 use Rattle.spec.specs.History.{finish-in-column, cancel}
 use Rattle.spec.specs.Dispatch.{typed-key, replay, repeat-last, repeats, pending-count, scrolled, key}
 use Rattle.spec.specs.Promises.{Reachable, Reachable-from}
-use Rattle.laws.proofs.Histories.{history-settled}
-use Rattle.laws.proofs.Sound.{Sound, start, Repeatable, finish-keys, closed-sound, typed-sound}
+use Rattle.laws.proofs.Sound.{Sound, start, finish-keys, closed-sound, typed-sound}
 
 pub initial-sound : (t : Text) (r c : ℕ) → Sound t (initial t r c)
 unfolding initial

@@ -1,16 +1,15 @@
 -- Motions lead to places of the text.
-use mathlib.Core.Path.{_≡_, refl, sym, ap, subst, _∙_}
 use mathlib.Core.Bool.{Bool, true, false, _&&_, not, cond}
-use mathlib.Core.List.{List, [], _∷_, _++_}
+use mathlib.Core.List.{[], _∷_}
 use mathlib.Core.Option.{Option, some, none}
-use Prim.Native.Nat.{ℕ, zero, suc, _+_, _-_, _≤_, _<_, min, max}
+use Prim.Native.Nat.{ℕ, zero, suc, _+_, _-_, _≤_, _<_}
 use native.Mathlib.Omega.{arith}
-use lib.ListN.{length, take, drop, length-take, length-drop}
-use lib.Dec.{eqb, ltb, leb}
+use lib.ListN.{length, length-take, length-drop}
+use lib.Dec.{eqb}
 use Rattle.std.proofs.shelf.Tests.{cond-both}
 use Rattle.spec.specs.Bytes.{is-white}
-use Rattle.spec.specs.Text.{Text, byte, part, line-end, line-start, last-in-line, nth-line, clamp, column, line-of, line-count, skip-back}
-use Rattle.spec.specs.Motions.{Motion, char-left, char-right, line-down, line-up, to-line-start, to-first-nonblank, to-line-end, to-next-word, to-previous-word, to-word-end, to-line-or-last, to-line-or-first, find, till, Target, inclusive, target, times, or-one, next-word, is-empty-line, skip-white-back, word-start, previous-word, word-end, nth-found, find-in-line, left-by, right-by, in-line, down-by, up-by, line-end-by, words-on, words-back, word-ends-on, to-line, found-by, motion-target}
+use Rattle.spec.specs.Text.{Text, byte, part, line-end, nth-line}
+use Rattle.spec.specs.Motions.{Motion, char-left, char-right, line-down, line-up, to-line-start, to-first-nonblank, to-line-end, to-next-word, to-previous-word, to-word-end, to-line-or-last, to-line-or-first, find, till, Target, inclusive, target, times, or-one, next-word, is-empty-line, skip-white-back, word-start, previous-word, nth-found, find-in-line, left-by, right-by, in-line, down-by, up-by, line-end-by, words-on, words-back, word-ends-on, to-line, found-by, motion-target}
 use Rattle.laws.proofs.LineBounds.{skip-back-down, line-start-down, line-end-up, line-end-within, last-in-line-within, nth-line-within, at-column-within, first-nonblank-within, clamp-within}
 
 -- a motion that can't be done leads nowhere

@@ -1,6 +1,6 @@
 -- What editors weigh on the way of u and control R: units go from one list to the other, and the text grows by no more than they weigh.
-use mathlib.Core.Path.{_≡_, refl, sym, ap, subst, _∙_}
-use mathlib.Core.Bool.{Bool, true, false, cond}
+use mathlib.Core.Path.{_≡_, refl, ap, _∙_}
+use mathlib.Core.Bool.{false}
 use mathlib.Core.List.{List, [], _∷_, _++_, reverse, reverse-cons}
 use Prim.Native.Nat.{ℕ, zero, suc, _+_, _-_, _≤_}
 use native.Mathlib.Omega.{arith}
@@ -11,18 +11,17 @@ use Rattle.std.proofs.shelf.Lists.{nil-from-length}
 use Rattle.spec.specs.Text.{Text}
 use Rattle.spec.specs.Motions.{times, or-one}
 use Rattle.spec.specs.Keys.{go-back, go-forth}
-use Rattle.spec.specs.Editor.{Change, UndoUnit, Ed}
+use Rattle.spec.specs.Editor.{UndoUnit, Ed}
 use Rattle.spec.specs.History.{finish, cancel, undo-once, redo-once}
 use Rattle.spec.specs.Commands.{run-action, undo-by, redo-by}
-use Rattle.spec.specs.Dispatch.{noted, typed-key, scrolled, key}
+use Rattle.spec.specs.Dispatch.{noted, scrolled, key}
 use Rattle.spec.specs.Promises.{changes-weight, units-weight, weight}
 use Rattle.spec.specs.HistoryLaws.{unit-changes, Undone, Runs, Moved, undoing, redoing, Between-is-bounded}
 use Rattle.laws.proofs.Weights.{changes-weight-append, unmade-weight, remade-weight}
 use Rattle.laws.proofs.Outcomes.{Within}
 use Rattle.laws.proofs.Histories.{Settled, settled-history, undo-none, redo-none, undo-settled, redo-settled}
-use Rattle.laws.proofs.Sound.{Sound, Stays, undo-stays, redo-stays, times-stays, times-sound, noted-history, noted-quiet}
+use Rattle.laws.proofs.Sound.{Sound, Stays, undo-stays, redo-stays, times-stays, times-sound, noted-history}
 use Rattle.laws.proofs.Accounts.{undo-times, redo-times}
-use Rattle.laws.proofs.UndoAll.{Same}
 use Rattle.laws.proofs.UndoKeys.{finished-same}
 use Rattle.laws.proofs.KeysSound.{some-sound}
 use Rattle.laws.proofs.Passing.{passed-between}

@@ -1,28 +1,26 @@
 -- The editors on the way of a repeat and of a key that joins lines, and what they weigh.
-use mathlib.Core.Path.{_≡_, refl, sym, ap, subst, _∙_}
-use mathlib.Core.Bool.{Bool, true, false, cond}
-use mathlib.Core.List.{List, [], _∷_, _++_}
-use Prim.Native.Nat.{ℕ, zero, suc, _+_, _-_, _*_, _≤_, _<_, max}
+use mathlib.Core.Path.{_≡_, refl, sym, ap, _∙_}
+use mathlib.Core.Bool.{false}
+use Prim.Native.Nat.{ℕ, zero, suc, _+_, _-_, _≤_, max}
 use native.Mathlib.Nat.{zero-add, suc-add}
 use native.Mathlib.Omega.{arith}
-use lib.ListN.{length, length-append}
-use lib.Dec.{eqb, ltb}
-use Rattle.std.proofs.shelf.Tests.{cond-both, cond-false, cond-true, cases-bool, ne-eqb}
+use lib.ListN.{length}
+use lib.Dec.{ltb}
+use Rattle.std.proofs.shelf.Tests.{cond-both, cond-false, ne-eqb}
 use Rattle.spec.specs.Bytes.{ascii}
-use Rattle.spec.specs.Text.{Text, line-end}
+use Rattle.spec.specs.Text.{line-end}
 use Rattle.spec.specs.Motions.{times, or-one}
-use Rattle.spec.specs.Keys.{Key, repeat, action, Action, join-lines, key-of, counting}
+use Rattle.spec.specs.Keys.{repeat, action, Action, join-lines, key-of, counting}
 use Rattle.spec.specs.Editor.{Ed}
 use Rattle.spec.specs.History.{finish, finish-in-column, cancel}
 use Rattle.spec.specs.Commands.{join-once, join-by, run-action}
-use Rattle.spec.specs.Dispatch.{command-key, noted, typed-key, replay, repeats, key, scrolled}
-use Rattle.spec.specs.Promises.{changes-weight, units-weight, weight}
-use Rattle.spec.specs.HistoryLaws.{Runs, recorded-weight, Between}
+use Rattle.spec.specs.Dispatch.{command-key, noted, typed-key, key, scrolled}
+use Rattle.spec.specs.HistoryLaws.{Runs, Between}
 use Rattle.laws.proofs.Edits.{Edits}
-use Rattle.laws.proofs.Outcomes.{Within, closed, cancels}
+use Rattle.laws.proofs.Outcomes.{Within}
 use Rattle.laws.proofs.Actions.{joins-edits, joins-within}
 use Rattle.laws.proofs.UndoKeys.{typed-first, key-first}
-use Rattle.laws.proofs.Progress.{Progress, progress-none, progress-then, edits-progress, closed-progress, noted-progress}
+use Rattle.laws.proofs.Progress.{Progress, progress-then, edits-progress, closed-progress, noted-progress}
 
 -- A key that is a command of one key.
 

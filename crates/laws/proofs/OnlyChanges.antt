@@ -1,18 +1,16 @@
 -- Nothing changes the text that history doesn't know.
-use mathlib.Core.Path.{_≡_, refl, sym, ap, subst, _∙_}
-use mathlib.Core.Bool.{Bool, true, false, cond}
-use mathlib.Core.List.{List, [], _∷_, _++_}
+use mathlib.Core.Path.{_≡_, refl}
+use mathlib.Core.Bool.{false}
 use Prim.Native.Nat.{ℕ}
 use Rattle.std.proofs.shelf.Tests.{cond-both}
-use Rattle.spec.specs.Bytes.{ascii, control-r}
 use Rattle.spec.specs.Text.{Text}
 use Rattle.spec.specs.Motions.{times}
 use Rattle.spec.specs.Editor.{Ed}
 use Rattle.spec.specs.History.{finish, undo-once, redo-once}
 use Rattle.spec.specs.Dispatch.{noted, typed-key, repeat-last, repeats, pending-count, scrolled, key}
-use Rattle.spec.specs.HistoryLaws.{Made, Undone, Accounted, made, undone, redone, Only-changes-change}
-use Rattle.laws.proofs.Phases.{Phase, phase, Next, goes-on, over, back, forth, next}
-use Rattle.laws.proofs.Outcomes.{Within, Idle, closed, Outcome, waits, types, refuses, ends, undoes, redoes}
+use Rattle.spec.specs.HistoryLaws.{Accounted, made, undone, redone, Only-changes-change}
+use Rattle.laws.proofs.Phases.{phase, Next, next}
+use Rattle.laws.proofs.Outcomes.{Outcome, waits, types, refuses, ends, undoes, redoes}
 use Rattle.laws.proofs.KeyOutcomes.{typed-keys}
 use Rattle.laws.proofs.Histories.{Settled, settled-history}
 use Rattle.laws.proofs.Sound.{Sound, Stays, undo-stays, redo-stays, times-stays, noted-history, noted-quiet}
@@ -21,8 +19,8 @@ use Rattle.laws.proofs.UndoAll.{Same, same-back}
 use Rattle.laws.proofs.UndoKeys.{finished-same, noted-same}
 use Rattle.laws.proofs.UndoBytes.{Onward, goes, is-over, only-u, only-control-r}
 use Rattle.laws.proofs.Accounts.{made-then, undo-times, redo-times, undone-same}
-use Rattle.laws.proofs.Progress.{Progress, outcome-progress, noted-progress, scrolled-progress}
-use Rattle.laws.proofs.Replays.{Done, repeat-done}
+use Rattle.laws.proofs.Progress.{outcome-progress, noted-progress, scrolled-progress}
+use Rattle.laws.proofs.Replays.{repeat-done}
 
 module _ (s : Text) (e : Ed) (k : ℕ) (h : Sound s e) where
   noted-settled : noted e k .inserting ≡ false → Settled s (noted e k)

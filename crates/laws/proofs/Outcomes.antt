@@ -1,24 +1,23 @@
 -- What becomes of the editor at one key: a lemma for each command.
-use mathlib.Core.Path.{_≡_, refl, sym, ap, subst, _∙_}
-use mathlib.Core.Bool.{Bool, true, false, _&&_, not, cond}
-use mathlib.Core.List.{List, [], _∷_, _++_}
+use mathlib.Core.Path.{_≡_, refl}
+use mathlib.Core.Bool.{Bool, true, false, cond}
+use mathlib.Core.List.{[]}
 use mathlib.Core.Option.{Option, some, none}
-use Prim.Native.Nat.{ℕ, zero, suc, _+_, _-_, _*_, _≤_, _<_, min, max}
+use Prim.Native.Nat.{ℕ, suc, _+_, _-_, _≤_, min, max}
 use native.Mathlib.Omega.{arith}
-use lib.ListN.{length, replicate, length-append, length-replicate}
-use lib.Dec.{eqb, ltb, leb}
-use Rattle.std.proofs.shelf.Tests.{cond-both, false≢true, ltb-true, leb-false, eqb-false}
-use Rattle.spec.specs.Bytes.{newline, space, tab, return, backspace, rubout, escape, is-blank, is-typeable}
-use Rattle.spec.specs.Text.{Text, part, copies, skip-forward, line-end, line-start, line-of, line-count, nth-line, column, first-nonblank, clamp}
-use Rattle.spec.specs.Motions.{Motion, Target, Extent, exclusive, inclusive, linewise, Region, times, or-one, motion-target, keeps-column, region, lines-region}
-use Rattle.spec.specs.Keys.{Operator, delete, yank, change, Prefix, counting, operating, Pending, total-count, is-operating}
-use Rattle.spec.specs.Editor.{Ed, with-cursor, with-kept-column, with-pending}
+use lib.ListN.{length}
+use lib.Dec.{ltb, leb}
+use Rattle.std.proofs.shelf.Tests.{cond-both, false≢true, leb-false}
+use Rattle.spec.specs.Text.{Text, line-end, line-start, line-of, line-count, nth-line}
+use Rattle.spec.specs.Motions.{Motion, Target, Extent, exclusive, inclusive, linewise, Region, times, keeps-column, region, lines-region}
+use Rattle.spec.specs.Keys.{Operator, delete, yank, change, Prefix, counting, operating, Pending}
+use Rattle.spec.specs.Editor.{Ed, with-kept-column, with-pending}
 use Rattle.spec.specs.History.{edit, finish, finish-in-column, cancel, undo-once, redo-once}
 use Rattle.spec.specs.Commands.{clamp-cursor, start-insert, yanked, delete-lines, delete-bytes, delete-region, yank-region, change-region, operate, move-to, run-motion, operate-lines}
-use Rattle.laws.proofs.LineBounds.{line-start-down, line-end-up, line-end-within, first-nonblank-within, clamp-within, line-start-nth}
-use Rattle.laws.proofs.MotionBounds.{Leads-within, nowhere, within, motion-within}
+use Rattle.laws.proofs.LineBounds.{line-start-down, line-end-up, first-nonblank-within, clamp-within, line-start-nth}
+use Rattle.laws.proofs.MotionBounds.{Leads-within, within, motion-within}
 use Rattle.laws.proofs.Edits.{Edits, no-edit, edits-then, moved-edits, start-insert-edits, yanked-edits, edit-edits, edit-within}
-use Rattle.laws.proofs.Phases.{Phase, typing, waiting, Next, goes-on, over, back, forth, behind-operator, behind-motion}
+use Rattle.laws.proofs.Phases.{typing, waiting, Next, goes-on, over, back, forth, behind-operator, behind-motion}
 
 abbrev pub Within : Ed → Type 0
 Within e = e .cursor ≤ length (e .text)

@@ -1,12 +1,12 @@
 -- Every editor on the way of a key weighs no more than the editors before and behind it allow.
 use mathlib.Core.Path.{_≡_, refl, sym, ap, subst, _∙_}
-use mathlib.Core.Bool.{Bool, true, false, cond}
+use mathlib.Core.Bool.{true, false}
 use mathlib.Core.List.{List, [], _∷_, _++_}
-use Prim.Native.Nat.{ℕ, zero, suc, _+_, _-_, _*_, _≤_, _<_, max}
+use Prim.Native.Nat.{ℕ, suc, _-_, _≤_, _<_}
 use native.Mathlib.Omega.{arith}
 use lib.ListN.{length, length-append}
 use lib.Dec.{eqb}
-use Rattle.std.proofs.shelf.Tests.{cond-both, cond-false, cond-true, eqb-true, eqb-false, ne-eqb}
+use Rattle.std.proofs.shelf.Tests.{cond-both, cond-false, cond-true, eqb-false, ne-eqb}
 use Rattle.spec.specs.Text.{Text}
 use Rattle.spec.specs.Motions.{times, or-one}
 use Rattle.spec.specs.Keys.{join-lines}
@@ -14,14 +14,13 @@ use Rattle.spec.specs.Editor.{Ed}
 use Rattle.spec.specs.History.{cancel}
 use Rattle.spec.specs.Commands.{join-once}
 use Rattle.spec.specs.Dispatch.{noted, typed-key, replay, repeat-last, repeats, pending-count, scrolled, key}
-use Rattle.spec.specs.Promises.{weight}
-use Rattle.spec.specs.HistoryLaws.{Runs, Joining, joined, Replaying as Passed-replay, during, behind, further, repeated, Passed, joining, replayed, replaying, recorded-weight, Between}
+use Rattle.spec.specs.HistoryLaws.{Joining, joined, Replaying as Passed-replay, during, behind, further, repeated, Passed, joining, replayed, replaying, Between}
 use Rattle.laws.proofs.Edits.{Edits}
 use Rattle.laws.proofs.Outcomes.{Within}
-use Rattle.laws.proofs.Sound.{Sound, noted-keys}
+use Rattle.laws.proofs.Sound.{Sound}
 use Rattle.laws.proofs.KeysSound.{repeats-idle}
 use Rattle.laws.proofs.Progress.{Progress, progress-none, progress-then, scrolled-progress}
-use Rattle.laws.proofs.Replays.{Replayed, Replaying, Stepped, ended, going, Done, replaying-progress, typed-stepped, stepped-ended, stepped-going, replaying-done, replay-begins, replay-done, replays-done, repeated-done, repeat-done, more, same, parts-more}
+use Rattle.laws.proofs.Replays.{Replayed, Replaying, Stepped, ended, going, Done, replaying-progress, typed-stepped, stepped-going, replaying-done, replay-begins, replays-done, repeated-done, more, same, parts-more}
 use Rattle.laws.proofs.UndoAll.{times-last}
 use Rattle.laws.proofs.OnTheWay.{runs-key, times-split, On-way, on-way-within, between, joined-edits, joining-on-way}
 

@@ -1,5 +1,5 @@
 -- How far a command is, as far as its keys alone say: what becomes of a key doesn't hang on the text, except that the command may not be done.
-use mathlib.Core.Bool.{Bool, true, false, _&&_, not, cond}
+use mathlib.Core.Bool.{_&&_, not, cond}
 use Prim.Native.Nat.{ℕ}
 use lib.Dec.{eqb}
 use Rattle.spec.specs.Bytes.{escape}

@@ -1,19 +1,17 @@
 -- What commands other than u and control R do: changes are made, and what is recorded doesn't become less.
-use mathlib.Core.Path.{_≡_, refl, sym, ap, subst, _∙_}
-use mathlib.Core.Logic.{_⊎_, inl, inr, ⊎-elim}
-use mathlib.Core.Bool.{Bool, true, false, cond}
+use mathlib.Core.Path.{_≡_, refl, sym, ap, _∙_}
+use mathlib.Core.Logic.{inl}
 use mathlib.Core.List.{List, [], _∷_, _++_}
-use Prim.Native.Nat.{ℕ, zero, suc, _+_, _≤_, max}
+use Prim.Native.Nat.{ℕ, _+_, _≤_, max}
 use native.Mathlib.Omega.{arith}
 use lib.ListN.{length}
-use Rattle.spec.specs.Keys.{Pending}
-use Rattle.spec.specs.Editor.{Change, UndoUnit, Ed, with-pending}
+use Rattle.spec.specs.Editor.{Change, Ed}
 use Rattle.spec.specs.History.{recorded, finish, unmade, remade}
 use Rattle.spec.specs.Dispatch.{noted, typed-key, scrolled}
 use Rattle.spec.specs.Promises.{changes-weight, units-weight}
 use Rattle.spec.specs.HistoryLaws.{unit-changes, recorded-weight, Made}
 use Rattle.laws.proofs.Edits.{Edits, edits-grow}
-use Rattle.laws.proofs.Phases.{Phase, phase, Next, next}
+use Rattle.laws.proofs.Phases.{phase, Next, next}
 use Rattle.laws.proofs.Outcomes.{Within, closed, Outcome, waits, types, refuses, ends, undoes, redoes}
 use Rattle.laws.proofs.KeyOutcomes.{typed-keys}
 use Rattle.laws.proofs.UndoBytes.{Onward}

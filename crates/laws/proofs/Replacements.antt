@@ -1,12 +1,11 @@
 -- Changes that lead from one text to another: unmaking them leads back, making them again leads on.
 use mathlib.Core.Path.{_≡_, refl, sym, ap, subst, _∙_}
-use mathlib.Core.List.{List, [], _∷_, _++_, append-assoc}
+use mathlib.Core.List.{List, [], _∷_, _++_}
 use Prim.Native.Nat.{ℕ, _+_, _-_, _≤_}
-use native.Mathlib.Omega.{arith}
 use lib.ListN.{length, take, drop}
 use Rattle.lists.proofs.Replaced.{put-back, take-own, drop-behind}
 use Rattle.spec.specs.Text.{Text, part, replaced}
-use Rattle.spec.specs.Editor.{Change, UndoUnit}
+use Rattle.spec.specs.Editor.{Change}
 use Rattle.spec.specs.History.{unmade, remade}
 
 -- a change's old bytes stand at its place in a text

@@ -1,21 +1,20 @@
 -- . types the keys of a whole command: each time it is done to its end, or not at all, and the keys for . stay the same.
 use mathlib.Core.Path.{_≡_, refl, sym, ap, subst, _∙_}
-use mathlib.Core.Bool.{Bool, true, false, cond}
+use mathlib.Core.Bool.{false, cond}
 use mathlib.Core.List.{List, [], _∷_, _++_, append-assoc, append-nil}
-use Prim.Native.Nat.{ℕ, zero, suc, _+_, _≤_, _<_}
+use Prim.Native.Nat.{ℕ, zero, suc, _<_}
 use native.Mathlib.Omega.{arith}
 use lib.ListN.{length, length-append}
 use lib.Dec.{eqb}
 use Rattle.std.proofs.shelf.Tests.{cond-both, eqb-true, eqb-false}
 use Rattle.spec.specs.Text.{Text}
 use Rattle.spec.specs.Motions.{times, or-one}
-use Rattle.spec.specs.Keys.{Pending}
-use Rattle.spec.specs.Editor.{Change, Ed, with-pending}
+use Rattle.spec.specs.Editor.{Change, Ed}
 use Rattle.spec.specs.History.{finish, finish-in-column, cancel}
 use Rattle.spec.specs.Dispatch.{noted, typed-key, replay, repeat-last}
 use Rattle.laws.proofs.Edits.{Edits}
 use Rattle.laws.proofs.Phases.{Phase, typing, waiting, phase, Next, goes-on, over, back, forth, next}
-use Rattle.laws.proofs.Outcomes.{Within, Idle, closed, Outcome, waits, types, refuses, ends, undoes, redoes}
+use Rattle.laws.proofs.Outcomes.{closed, Outcome, waits, types, refuses, ends, undoes, redoes}
 use Rattle.laws.proofs.KeyOutcomes.{typed-keys}
 use Rattle.laws.proofs.UndoBytes.{Onward, goes, is-over}
 use Rattle.laws.proofs.Sound.{Sound, start, Leads, If-goes-on, Complete, Repeatable, kept-keys, finish-keys, noted-keys, noted-quiet, typed-sound}

@@ -1,9 +1,8 @@
 -- What holds of every editor that keys lead to, relative to the first text: one key that isn't a repeat keeps it.
 use mathlib.Core.Path.{_≡_, refl, sym, ap, subst, _∙_}
-use mathlib.Core.Bool.{Bool, true, false, cond}
+use mathlib.Core.Bool.{true, false}
 use mathlib.Core.List.{List, [], _∷_, _++_}
-use Prim.Native.Nat.{ℕ, zero, suc, _≤_}
-use lib.ListN.{length}
+use Prim.Native.Nat.{ℕ, zero, suc}
 use Rattle.std.proofs.shelf.Tests.{true≢false}
 use Rattle.spec.specs.Text.{Text}
 use Rattle.spec.specs.Motions.{times}

@@ -1,14 +1,14 @@
 -- Everything undone, and redone again.
 use mathlib.Core.Path.{_≡_, refl, sym, ap, subst, _∙_}
-use mathlib.Core.Bool.{Bool, true, false, cond}
-use mathlib.Core.List.{List, [], _∷_, _++_}
+use mathlib.Core.Bool.{false}
+use mathlib.Core.List.{List, [], _∷_}
 use Prim.Native.Nat.{ℕ, zero, suc}
 use lib.ListN.{length}
 use Rattle.spec.specs.Text.{Text}
 use Rattle.spec.specs.Motions.{times}
-use Rattle.spec.specs.Editor.{Change, UndoUnit, Ed}
+use Rattle.spec.specs.Editor.{UndoUnit, Ed}
 use Rattle.spec.specs.History.{unmade, remade, undo-once, redo-once}
-use Rattle.spec.specs.Promises.{Reachable, Reachable-from, Back-and-forth, All-back, All-forth, all-undone}
+use Rattle.spec.specs.Promises.{Back-and-forth, All-back, All-forth}
 use Rattle.laws.proofs.Replacements.{unmade-applies, remade-applies}
 use Rattle.laws.proofs.Histories.{Undo-chain, Redo-chain, Settled, settled-history, with-undone, with-redone, undo-none, undo-some, redo-none, redo-some, undo-settled}
 use Rattle.laws.proofs.Sound.{Sound}

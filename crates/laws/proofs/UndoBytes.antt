@@ -1,10 +1,9 @@
 -- Only u undoes, only control R redoes.
-use mathlib.Core.Path.{_≡_, refl, sym, ap, subst, _∙_}
+use mathlib.Core.Path.{_≡_, refl}
 use mathlib.Core.Bool.{Bool, true, false, _&&_, not, cond}
 use Prim.Native.Nat.{ℕ}
 use native.Mathlib.Omega.{arith}
 use lib.Dec.{eqb}
-use Rattle.std.proofs.shelf.Tests.{cond-both}
 use Rattle.std.proofs.shelf.Ways.{tells}
 use Rattle.spec.specs.Bytes.{ascii, control-r, escape}
 use Rattle.spec.specs.Keys.{Operator, delete, yank, change, Argument, byte-to-find, byte-to-stop-before, byte-to-write, second-g, Action, delete-chars, join-lines, put-after, put-before, insert-before, insert-after, insert-at-first-nonblank, insert-at-line-end, insert-line-below, insert-line-above, go-back, go-forth, Key, digit, motion, operator, awaiter, action, repeat, no-command, key-of, Prefix, counting, operating, ready, awaiting, has-count}

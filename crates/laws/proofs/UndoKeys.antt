@@ -1,19 +1,18 @@
 -- u and control R as keys: each takes back what the other did.
 use mathlib.Core.Path.{_≡_, refl, sym, ap, subst, _∙_}
-use mathlib.Core.Bool.{Bool, true, false, _&&_, not, cond}
-use mathlib.Core.List.{List, [], _∷_, _++_}
-use Prim.Native.Nat.{ℕ, zero, suc, _<_}
+use mathlib.Core.Bool.{false, cond}
+use mathlib.Core.List.{List, [], _∷_}
+use Prim.Native.Nat.{ℕ, _<_}
 use native.Mathlib.Omega.{arith}
 use lib.ListN.{length}
 use lib.Dec.{eqb}
 use Rattle.std.proofs.shelf.Tests.{cond-false, ne-eqb}
 use Rattle.spec.specs.Bytes.{ascii, control-r, escape}
 use Rattle.spec.specs.Text.{Text}
-use Rattle.spec.specs.Motions.{times, or-one}
 use Rattle.spec.specs.Keys.{Pending, ready, awaiting, no-prefix, counting, key-of}
 use Rattle.spec.specs.Editor.{Change, UndoUnit, Ed}
 use Rattle.spec.specs.History.{recorded, finish, cancel, undo-once, redo-once}
-use Rattle.spec.specs.Commands.{undo-by, redo-by, run-action, insert-key}
+use Rattle.spec.specs.Commands.{undo-by, redo-by, run-action}
 use Rattle.spec.specs.Dispatch.{argument-key, command-key, normal-key, noted, typed-key, repeats, scrolled, key}
 use Rattle.spec.specs.HistoryLaws.{Restored, Ready, Undo-key-redo-key}
 use Rattle.laws.proofs.Outcomes.{Within}

@@ -1,15 +1,15 @@
 -- What changes weigh, and by how much they alter a text's length.
-use mathlib.Core.Path.{_≡_, refl, sym, ap, _∙_}
+use mathlib.Core.Path.{_≡_, ap, _∙_}
 use mathlib.Core.List.{List, [], _∷_, _++_}
-use Prim.Native.Nat.{ℕ, _+_, _-_, _≤_}
+use Prim.Native.Nat.{_+_, _-_, _≤_}
 use native.Mathlib.Omega.{arith}
-use lib.ListN.{length, take, drop, length-take, length-drop}
+use lib.ListN.{length}
 use Rattle.lists.proofs.Replaced.{length-replaced, length-replaced-le}
 use Rattle.spec.specs.Text.{Text, replaced}
-use Rattle.spec.specs.Editor.{Change, UndoUnit}
+use Rattle.spec.specs.Editor.{Change}
 use Rattle.spec.specs.History.{unmade, remade}
-use Rattle.spec.specs.Promises.{changes-weight, units-weight}
-use Rattle.laws.proofs.Replacements.{Applies, Lies}
+use Rattle.spec.specs.Promises.{changes-weight}
+use Rattle.laws.proofs.Replacements.{Applies}
 
 pub changes-weight-append : (ds cs : List Change) → changes-weight (ds ++ cs) ≡ changes-weight ds + changes-weight cs
 changes-weight-append [] cs = omega arith

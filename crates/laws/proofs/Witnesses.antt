@@ -1,8 +1,8 @@
 -- The editors to which the theorems on history apply, found by computing.
-use mathlib.Core.Path.{_≡_, refl, sym, ap, subst, _∙_}
-use mathlib.Core.Bool.{Bool, true, false, _&&_}
-use mathlib.Core.List.{List, [], _∷_, _++_}
-use Prim.Native.Nat.{ℕ, zero, suc, _≤_, _<_}
+use mathlib.Core.Path.{_≡_, refl}
+use mathlib.Core.Bool.{Bool, true, _&&_}
+use mathlib.Core.List.{List, [], _∷_}
+use Prim.Native.Nat.{ℕ}
 use native.Mathlib.Omega.{arith}
 use lib.Dec.{ltb}
 use lib.Chars.{codes}
@@ -10,7 +10,7 @@ use Rattle.std.proofs.shelf.Tests.{and-parts, ltb-true}
 use Rattle.spec.specs.Text.{Text}
 use Rattle.spec.specs.Editor.{Ed}
 use Rattle.spec.specs.Promises.{Reachable-from}
-use Rattle.spec.specs.HistoryLaws.{Runs, joined, joining, replayed, undoing, redoing}
+use Rattle.spec.specs.HistoryLaws.{joined, joining, replayed, undoing, redoing}
 use Rattle.spec.specs.Worked.{after}
 use Rattle.spec.specs.HistoryWitnesses.{short, typed, Two-units, One-each, Open-insert, Repeated, Joined, Moved-twice, History-witnesses}
 use Rattle.spec.proofs.Computing.{computing}

@@ -1,11 +1,11 @@
 -- Editors to which the theorems on history apply, and what they then say of them: each is one that keys lead to.
 use mathlib.Core.Path.{_≡_}
 use mathlib.Core.Bool.{true, false}
-use mathlib.Core.List.{List, [], _∷_, _++_}
+use mathlib.Core.List.{List, _∷_, _++_}
 use Prim.Native.Nat.{ℕ}
 use lib.ListN.{length}
 use lib.Chars.{codes}
-use Rattle.spec.specs.Bytes.{ascii, newline, escape, control-r}
+use Rattle.spec.specs.Bytes.{ascii, newline, control-r}
 use Rattle.spec.specs.Text.{Text}
 use Rattle.spec.specs.Motions.{times}
 use Rattle.spec.specs.Keys.{no-prefix}
