@@ -1,18 +1,19 @@
 -- The editors to which the theorems on history apply, found by computing.
 use mathlib.Core.Path.{_≡_, refl}
 use mathlib.Core.Bool.{Bool, true, _&&_}
-use mathlib.Core.List.{List, [], _∷_}
+use mathlib.Core.List.{List, [], _∷_, _++_}
 use Prim.Native.Nat.{ℕ}
 use native.Mathlib.Omega.{arith}
 use lib.Dec.{ltb}
 use lib.Chars.{codes}
 use Rattle.std.proofs.shelf.Tests.{and-parts, ltb-true}
+use Rattle.spec.specs.Bytes.{escape}
 use Rattle.spec.specs.Text.{Text}
 use Rattle.spec.specs.Editor.{Ed}
 use Rattle.spec.specs.Promises.{Reachable-from}
-use Rattle.spec.specs.HistoryLaws.{joined, joining, replayed, undoing, redoing}
+use Rattle.spec.specs.HistoryLaws.{joined, joining, behind, further, replayed, replaying, undoing, redoing}
 use Rattle.spec.specs.Worked.{after}
-use Rattle.spec.specs.HistoryWitnesses.{short, typed, Two-units, One-each, Open-insert, Repeated, Joined, Moved-twice, History-witnesses}
+use Rattle.spec.specs.HistoryWitnesses.{short, typed, Two-units, One-each, Open-insert, Repeated, Typed-again, Joined, Moved-twice, History-witnesses}
 use Rattle.spec.proofs.Computing.{computing}
 
 abbrev bytes : List ℕ → Bool
@@ -48,6 +49,17 @@ unfolding computing
 repeated =
     record { reachable = typed-reachable (codes "x2") refl; units = refl; between = replayed 1 refl (omega arith); between-text = refl }
 
+typed-again : Typed-again
+unfolding computing
+typed-again =
+    record {
+      reachable = typed-reachable (codes "iZ" ++ (escape ∷ [])) refl;
+      text = refl;
+      between = replaying 0 refl (omega arith) (further (omega arith) behind);
+      inserting = refl;
+      changes = refl;
+    }
+
 lines-joined : Joined
 unfolding computing
 lines-joined =
@@ -66,4 +78,4 @@ moved-twice =
     }
 
 pub history-witnesses : History-witnesses
-history-witnesses = record { two-units = two-units; one-each = one-each; open-insert = open-insert; repeated = repeated; joined = lines-joined; moved-twice = moved-twice }
+history-witnesses = record { two-units = two-units; one-each = one-each; open-insert = open-insert; repeated = repeated; typed-again = typed-again; joined = lines-joined; moved-twice = moved-twice }

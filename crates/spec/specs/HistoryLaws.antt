@@ -41,7 +41,7 @@ pub record Undone (e f : Ed) : Type 0 where
   pub unmade : f .text ≡ unmade (unit-changes units) (e .text)
   pub back : e .text ≡ remade (unit-changes units) (f .text)
 
--- what a key may do to the text: redone is what would be undone on the way back
+-- What a key may do to the text: make changes; undo units, if it is u; redo units, if it is control R, which undoing them takes back.
 pub data Accounted (e : Ed) (k : ℕ) (f : Ed) : Type 0 where
   made : Made e f → Accounted e k f
   undone : k ≡ ascii "u" → Undone e f → Accounted e k f
@@ -105,7 +105,8 @@ pub data Moved (e : Ed) (k : ℕ) : Ed → Type 0 where
 abbrev pub recorded-weight : Ed → ℕ
 recorded-weight e = length (e .text) + (changes-weight (e .command .changes) + units-weight (e .undo))
 
--- an editor between two others: what is recorded doesn't become less, and it weighs no more than the first and twice the last, and 1 for the key
+-- An editor f on the way from e to g: what is recorded doesn't become less, and f weighs no more than e and twice g, and 1 for the key.
+-- Twice, since f's register may hold what was taken away on the way: it was a part of a text, which is recorded.
 pub record Between (e f g : Ed) : Type 0 where
   pub from : recorded-weight e ≤ recorded-weight f
   pub to : recorded-weight f ≤ recorded-weight g

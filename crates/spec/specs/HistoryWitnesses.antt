@@ -1,18 +1,18 @@
 -- Editors to which the theorems on history apply, and what they then say of them: each is one that keys lead to.
 use mathlib.Core.Path.{_≡_}
 use mathlib.Core.Bool.{true, false}
-use mathlib.Core.List.{List, _∷_, _++_}
+use mathlib.Core.List.{List, [], _∷_, _++_}
 use Prim.Native.Nat.{ℕ}
 use lib.ListN.{length}
 use lib.Chars.{codes}
-use Rattle.spec.specs.Bytes.{ascii, newline, control-r}
+use Rattle.spec.specs.Bytes.{ascii, newline, escape, control-r}
 use Rattle.spec.specs.Text.{Text}
 use Rattle.spec.specs.Motions.{times}
 use Rattle.spec.specs.Keys.{no-prefix}
 use Rattle.spec.specs.Editor.{Ed, initial}
 use Rattle.spec.specs.History.{undo-once, redo-once}
 use Rattle.spec.specs.Commands.{join-once}
-use Rattle.spec.specs.Dispatch.{noted, key}
+use Rattle.spec.specs.Dispatch.{noted, typed-key, key}
 use Rattle.spec.specs.Promises.{Reachable-from, all-undone}
 use Rattle.spec.specs.HistoryLaws.{undoable, repeated, Passed, Moved}
 use Rattle.spec.specs.Worked.{after}
@@ -72,6 +72,20 @@ pub record Repeated : Type 0 where
   pub between : Passed to-repeat (ascii ".") (repeated to-repeat 1)
   pub between-text : repeated to-repeat 1 .text ≡ codes "c" ++ (newline ∷ codes "d" ++ (newline ∷ codes "e"))
 
+-- the keys of an insert typed again: between them the editor inserts
+abbrev pub to-type : Ed
+to-type = typed (codes "iZ" ++ (escape ∷ []))
+
+abbrev pub half-typed : Ed
+half-typed = typed-key (typed-key (repeated to-type 0) (ascii "i")) (ascii "Z")
+
+pub record Typed-again : Type 0 where
+  pub reachable : Reachable-from short 8 12 to-type
+  pub text : key to-type (ascii ".") .text ≡ codes "ZZabc" ++ (newline ∷ codes "d" ++ (newline ∷ codes "e"))
+  pub between : Passed to-type (ascii ".") half-typed
+  pub inserting : half-typed .inserting ≡ true
+  pub changes : length (half-typed .command .changes) ≡ 1
+
 -- three lines joined at one key
 abbrev pub to-join : Ed
 to-join = typed (codes "3")
@@ -102,5 +116,6 @@ pub record History-witnesses : Type 0 where
   pub one-each : One-each
   pub open-insert : Open-insert
   pub repeated : Repeated
+  pub typed-again : Typed-again
   pub joined : Joined
   pub moved-twice : Moved-twice
