@@ -22,3 +22,4 @@ pub mod OnTheWay
 pub mod Passing
 pub mod MovedWeights
 pub mod Witnesses
+pub mod ReplaySteps

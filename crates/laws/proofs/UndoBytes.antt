@@ -42,55 +42,55 @@ onward-either true x y p q = p
 onward-either false x y p q = q
 
 -- what is said of a key, and what that says of the byte
-pub data Told (k : ℕ) : Next → Type 0 where
-  onward : {x : Next} → Onward x → Told k x
-  undoing : k ≡ ascii "u" → Told k back
-  redoing : k ≡ control-r → Told k forth
+pub data Key-byte (k : ℕ) : Next → Type 0 where
+  onward : {x : Next} → Onward x → Key-byte k x
+  undoing : k ≡ ascii "u" → Key-byte k back
+  redoing : k ≡ control-r → Key-byte k forth
 
-told-action : (k : ℕ) (a : Action) → key-of k ≡ action a → Told k (behind-action a)
-told-action k delete-chars n = onward is-over
-told-action k join-lines n = onward is-over
-told-action k put-after n = onward is-over
-told-action k put-before n = onward is-over
-told-action k insert-before n = onward goes
-told-action k insert-after n = onward goes
-told-action k insert-at-first-nonblank n = onward goes
-told-action k insert-at-line-end n = onward goes
-told-action k insert-line-below n = onward goes
-told-action k insert-line-above n = onward goes
-told-action k go-back n = undoing (back-byte k n)
-told-action k go-forth n = redoing (forth-byte k n)
+action-byte : (k : ℕ) (a : Action) → key-of k ≡ action a → Key-byte k (behind-action a)
+action-byte k delete-chars n = onward is-over
+action-byte k join-lines n = onward is-over
+action-byte k put-after n = onward is-over
+action-byte k put-before n = onward is-over
+action-byte k insert-before n = onward goes
+action-byte k insert-after n = onward goes
+action-byte k insert-at-first-nonblank n = onward goes
+action-byte k insert-at-line-end n = onward goes
+action-byte k insert-line-below n = onward goes
+action-byte k insert-line-above n = onward goes
+action-byte k go-back n = undoing (back-byte k n)
+action-byte k go-forth n = redoing (forth-byte k n)
 
-told-key : (k : ℕ) (p : Prefix) (x : Key) → key-of k ≡ x → Told k (behind-key p x)
-told-key k p (digit d) n = onward (onward-either (eqb d 0 && not (has-count p)) _ _ (onward-motion p) goes)
-told-key k p (motion m) n = onward (onward-motion p)
-told-key k (counting c) (operator o) n = onward goes
-told-key k (operating q c m) (operator o) n = onward (onward-operator o)
-told-key k p (awaiter a) n = onward goes
-told-key k (counting c) (action a) n = told-action k a n
-told-key k (operating o c m) (action a) n = onward is-over
-told-key k p repeat n = onward is-over
-told-key k p no-command n = onward is-over
+command-byte : (k : ℕ) (p : Prefix) (x : Key) → key-of k ≡ x → Key-byte k (behind-key p x)
+command-byte k p (digit d) n = onward (onward-either (eqb d 0 && not (has-count p)) _ _ (onward-motion p) goes)
+command-byte k p (motion m) n = onward (onward-motion p)
+command-byte k (counting c) (operator o) n = onward goes
+command-byte k (operating q c m) (operator o) n = onward (onward-operator o)
+command-byte k p (awaiter a) n = onward goes
+command-byte k (counting c) (action a) n = action-byte k a n
+command-byte k (operating o c m) (action a) n = onward is-over
+command-byte k p repeat n = onward is-over
+command-byte k p no-command n = onward is-over
 
-pub told : (p : Phase) (k : ℕ) → Told k (next p k)
-told typing k = onward (onward-either (eqb k escape) _ _ is-over goes)
-told (waiting (ready p)) k = told-key k p (key-of k) refl
-told (waiting (awaiting a p)) k = onward (onward-either (eqb k escape) _ _ is-over (onward-argument a p))
+pub key-byte : (p : Phase) (k : ℕ) → Key-byte k (next p k)
+key-byte typing k = onward (onward-either (eqb k escape) _ _ is-over goes)
+key-byte (waiting (ready p)) k = command-byte k p (key-of k) refl
+key-byte (waiting (awaiting a p)) k = onward (onward-either (eqb k escape) _ _ is-over (onward-argument a p))
 
-undo-byte : (k : ℕ) {x : Next} → Told k x → back ≡ x → k ≡ ascii "u"
+undo-byte : (k : ℕ) {x : Next} → Key-byte k x → back ≡ x → k ≡ ascii "u"
 undo-byte k (onward goes) n = cc
 undo-byte k (onward is-over) n = cc
 undo-byte k (undoing e) n = e
 undo-byte k (redoing e) n = cc
 
-redo-byte : (k : ℕ) {x : Next} → Told k x → forth ≡ x → k ≡ control-r
+redo-byte : (k : ℕ) {x : Next} → Key-byte k x → forth ≡ x → k ≡ control-r
 redo-byte k (onward goes) n = cc
 redo-byte k (onward is-over) n = cc
 redo-byte k (undoing e) n = cc
 redo-byte k (redoing e) n = e
 
 pub only-u : (p : Phase) (k : ℕ) → back ≡ next p k → k ≡ ascii "u"
-only-u p k n = undo-byte k (told p k) n
+only-u p k n = undo-byte k (key-byte p k) n
 
 pub only-control-r : (p : Phase) (k : ℕ) → forth ≡ next p k → k ≡ control-r
-only-control-r p k n = redo-byte k (told p k) n
+only-control-r p k n = redo-byte k (key-byte p k) n
