@@ -9,8 +9,8 @@ use Rattle.spec.specs.Editor.{Change, UndoUnit, Ed}
 use Rattle.spec.specs.History.{recorded, finish, unmade, remade, undo-once, redo-once}
 use Rattle.spec.specs.HistoryLaws.{unit-changes, undoable, Made, Undone, made}
 use Rattle.laws.proofs.Replacements.{unmade-applies, remade-applies}
-use Rattle.laws.proofs.Edits.{Edits}
-use Rattle.laws.proofs.Outcomes.{closed}
+use Rattle.laws.proofs.HistoryEdits.{Edits}
+use Rattle.laws.proofs.HistoryOutcomes.{closed}
 use Rattle.laws.proofs.Histories.{Settled, with-undone, with-redone, undo-none, undo-some, redo-none, redo-some, undo-settled, redo-settled}
 use Rattle.laws.proofs.UndoAll.{Same, undone-redone, redone-undone}
 

@@ -15,9 +15,9 @@ use Rattle.spec.specs.Editor.{Ed, with-cursor}
 use Rattle.spec.specs.History.{edit}
 use Rattle.spec.specs.Commands.{clamp-cursor, delete-chars-by, write-over, join-once, join-by, put-lines-below, put-lines-above, put-bytes, put-after-by, put-before-by, insert-at, insert-line, undo-by, redo-by, run-action, type-byte, erase-byte, leave-insert, insert-key}
 use Rattle.laws.proofs.LineBounds.{skip-forward-up, line-start-down, line-end-within, first-nonblank-within, clamp-within}
-use Rattle.laws.proofs.Edits.{Edits, no-edit, edits-then, moved-edits, edit-edits, edit-length, edit-within}
+use Rattle.laws.proofs.HistoryEdits.{Edits, no-edit, edits-then, moved-edits, edit-edits, edit-length, edit-within}
 use Rattle.laws.proofs.Phases.{typing, goes-on, over, back, forth, behind-action, next}
-use Rattle.laws.proofs.Outcomes.{Within, Idle, Outcome, types, undoes, redoes, cancels, finishes, starts-insert, either, by-test, deletes}
+use Rattle.laws.proofs.HistoryOutcomes.{Within, Idle, Outcome, types, undoes, redoes, cancels, finishes, starts-insert, either, by-test, deletes}
 
 or-one-positive : (n : ℕ) → 1 ≤ or-one n
 or-one-positive zero = omega arith

@@ -6,7 +6,7 @@ use Rattle.spec.specs.Text.{Text, clamp}
 use Rattle.spec.specs.Editor.{Change, UndoUnit, Ed, with-text, with-cursor, with-changes, with-history}
 use Rattle.spec.specs.History.{recorded, finish, unmade, remade, newest-place, undo-once, redo-once}
 use Rattle.laws.proofs.Replacements.{Applies, then, remade-applies, unmade-applies}
-use Rattle.laws.proofs.Edits.{Edits}
+use Rattle.laws.proofs.HistoryEdits.{Edits}
 
 -- from a first text by units, the newest first, to a text
 abbrev pub Undo-chain : Text → List UndoUnit → Text → Type 0

@@ -11,7 +11,7 @@ use Rattle.spec.specs.History.{cancel}
 use Rattle.spec.specs.Commands.{insert-key}
 use Rattle.spec.specs.Dispatch.{argument-key, digit-key, operator-key, awaiter-key, command-key, normal-key, noted, typed-key}
 use Rattle.laws.proofs.Phases.{typing, waiting, phase, goes-on, over, behind-operator, behind-motion, behind-argument, behind-key, next}
-use Rattle.laws.proofs.Outcomes.{Within, Idle, Outcome, waits, cancels, either, by-test, runs-motion, operates-lines}
+use Rattle.laws.proofs.HistoryOutcomes.{Within, Idle, Outcome, waits, cancels, either, by-test, runs-motion, operates-lines}
 use Rattle.laws.proofs.Actions.{writes-over, runs-action, inserts-key}
 
 argument-keys : (e : Ed) (a : Argument) (p : Prefix) (k : ℕ) → Idle e → Outcome e (behind-argument a p) (argument-key e a p k)

@@ -3,9 +3,9 @@ pub mod Replacements
 pub mod LineBounds
 pub mod MotionBounds
 pub mod Weights
-pub mod Edits
+pub mod HistoryEdits
 pub mod Phases
-pub mod Outcomes
+pub mod HistoryOutcomes
 pub mod Actions
 pub mod KeyOutcomes
 pub mod Histories
@@ -21,5 +21,5 @@ pub mod OnlyChanges
 pub mod OnTheWay
 pub mod Passing
 pub mod MovedWeights
-pub mod Witnesses
+pub mod HistoryWitnesses
 pub mod ReplaySteps

@@ -18,7 +18,7 @@ use Rattle.spec.specs.Dispatch.{noted, scrolled, key}
 use Rattle.spec.specs.Promises.{changes-weight, units-weight, weight}
 use Rattle.spec.specs.HistoryLaws.{unit-changes, Undone, Runs, Moved, undoing, redoing, Between-is-bounded}
 use Rattle.laws.proofs.Weights.{changes-weight-append, unmade-weight, remade-weight}
-use Rattle.laws.proofs.Outcomes.{Within}
+use Rattle.laws.proofs.HistoryOutcomes.{Within}
 use Rattle.laws.proofs.Histories.{Settled, settled-history, undo-none, redo-none, undo-settled, redo-settled}
 use Rattle.laws.proofs.Sound.{Sound, Stays, undo-stays, redo-stays, times-stays, times-sound, noted-history}
 use Rattle.laws.proofs.Accounts.{undo-times, redo-times}

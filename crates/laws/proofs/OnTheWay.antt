@@ -16,8 +16,8 @@ use Rattle.spec.specs.History.{finish, finish-in-column, cancel}
 use Rattle.spec.specs.Commands.{join-once, join-by, run-action}
 use Rattle.spec.specs.Dispatch.{command-key, noted, typed-key, key, scrolled}
 use Rattle.spec.specs.HistoryLaws.{Runs, Between}
-use Rattle.laws.proofs.Edits.{Edits}
-use Rattle.laws.proofs.Outcomes.{Within}
+use Rattle.laws.proofs.HistoryEdits.{Edits}
+use Rattle.laws.proofs.HistoryOutcomes.{Within}
 use Rattle.laws.proofs.Actions.{joins-edits, joins-within}
 use Rattle.laws.proofs.UndoKeys.{typed-first, key-first}
 use Rattle.laws.proofs.Progress.{Progress, progress-then, edits-progress, closed-progress, noted-progress}

@@ -10,7 +10,7 @@ use Rattle.spec.specs.History.{finish, undo-once, redo-once}
 use Rattle.spec.specs.Dispatch.{noted, typed-key, repeat-last, repeats, pending-count, scrolled, key}
 use Rattle.spec.specs.HistoryLaws.{Accounted, made, undone, redone, Only-changes-change}
 use Rattle.laws.proofs.Phases.{phase, Next, next}
-use Rattle.laws.proofs.Outcomes.{Outcome, waits, types, refuses, ends, undoes, redoes}
+use Rattle.laws.proofs.HistoryOutcomes.{Outcome, waits, types, refuses, ends, undoes, redoes}
 use Rattle.laws.proofs.KeyOutcomes.{typed-keys}
 use Rattle.laws.proofs.Histories.{Settled, settled-history}
 use Rattle.laws.proofs.Sound.{Sound, Stays, undo-stays, redo-stays, times-stays, noted-history, noted-quiet}

@@ -15,8 +15,8 @@ use Rattle.spec.specs.History.{cancel}
 use Rattle.spec.specs.Commands.{join-once}
 use Rattle.spec.specs.Dispatch.{noted, typed-key, replay, repeat-last, repeats, pending-count, scrolled, key}
 use Rattle.spec.specs.HistoryLaws.{Joining, joined, Replaying as Passed-replay, during, behind, further, repeated, Passed, joining, replayed, replaying, Between}
-use Rattle.laws.proofs.Edits.{Edits}
-use Rattle.laws.proofs.Outcomes.{Within}
+use Rattle.laws.proofs.HistoryEdits.{Edits}
+use Rattle.laws.proofs.HistoryOutcomes.{Within}
 use Rattle.laws.proofs.Sound.{Sound}
 use Rattle.laws.proofs.KeysSound.{repeats-idle}
 use Rattle.laws.proofs.Progress.{Progress, progress-none, progress-then, scrolled-progress}

@@ -10,9 +10,9 @@ use Rattle.spec.specs.History.{recorded, finish, unmade, remade}
 use Rattle.spec.specs.Dispatch.{noted, typed-key, scrolled}
 use Rattle.spec.specs.Promises.{changes-weight, units-weight}
 use Rattle.spec.specs.HistoryLaws.{unit-changes, recorded-weight, Made}
-use Rattle.laws.proofs.Edits.{Edits, edits-grow}
+use Rattle.laws.proofs.HistoryEdits.{Edits, edits-grow}
 use Rattle.laws.proofs.Phases.{phase, Next, next}
-use Rattle.laws.proofs.Outcomes.{Within, closed, Outcome, waits, types, refuses, ends, undoes, redoes}
+use Rattle.laws.proofs.HistoryOutcomes.{Within, closed, Outcome, waits, types, refuses, ends, undoes, redoes}
 use Rattle.laws.proofs.KeyOutcomes.{typed-keys}
 use Rattle.laws.proofs.UndoBytes.{Onward}
 use Rattle.laws.proofs.Accounts.{made-none, made-then, edits-made, closed-made}

@@ -12,9 +12,9 @@ use Rattle.spec.specs.Motions.{times, or-one}
 use Rattle.spec.specs.Editor.{Change, Ed}
 use Rattle.spec.specs.History.{finish, finish-in-column, cancel}
 use Rattle.spec.specs.Dispatch.{noted, typed-key, replay, repeat-last}
-use Rattle.laws.proofs.Edits.{Edits}
+use Rattle.laws.proofs.HistoryEdits.{Edits}
 use Rattle.laws.proofs.Phases.{Phase, typing, waiting, phase, Next, goes-on, over, back, forth, next}
-use Rattle.laws.proofs.Outcomes.{closed, Outcome, waits, types, refuses, ends, undoes, redoes}
+use Rattle.laws.proofs.HistoryOutcomes.{closed, Outcome, waits, types, refuses, ends, undoes, redoes}
 use Rattle.laws.proofs.KeyOutcomes.{typed-keys}
 use Rattle.laws.proofs.UndoBytes.{Onward, goes, is-over}
 use Rattle.laws.proofs.Sound.{Sound, start, Leads, If-goes-on, Complete, Repeatable, kept-keys, finish-keys, noted-keys, noted-quiet, typed-sound}

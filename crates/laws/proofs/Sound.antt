@@ -11,9 +11,9 @@ use Rattle.spec.specs.Editor.{Change, UndoUnit, Ed, with-pending}
 use Rattle.spec.specs.History.{recorded, finish, undo-once, redo-once}
 use Rattle.spec.specs.Dispatch.{noted, typed-key}
 use Rattle.laws.proofs.LineBounds.{clamp-within}
-use Rattle.laws.proofs.Edits.{Edits}
+use Rattle.laws.proofs.HistoryEdits.{Edits}
 use Rattle.laws.proofs.Phases.{Phase, typing, waiting, phase, Next, goes-on, over, back, forth, next}
-use Rattle.laws.proofs.Outcomes.{Within, Idle, closed, Outcome, waits, types, refuses, ends, undoes, redoes}
+use Rattle.laws.proofs.HistoryOutcomes.{Within, Idle, closed, Outcome, waits, types, refuses, ends, undoes, redoes}
 use Rattle.laws.proofs.KeyOutcomes.{typed-keys}
 use Rattle.laws.proofs.Histories.{History, Settled, edits-history, settled-history, history-settled, finish-settled, undo-none, undo-some, redo-none, redo-some, undo-settled, redo-settled}
 

@@ -15,7 +15,7 @@ use Rattle.spec.specs.History.{recorded, finish, cancel, undo-once, redo-once}
 use Rattle.spec.specs.Commands.{undo-by, redo-by, run-action}
 use Rattle.spec.specs.Dispatch.{argument-key, command-key, normal-key, noted, typed-key, repeats, scrolled, key}
 use Rattle.spec.specs.HistoryLaws.{Restored, Ready, Undo-key-redo-key}
-use Rattle.laws.proofs.Outcomes.{Within}
+use Rattle.laws.proofs.HistoryOutcomes.{Within}
 use Rattle.laws.proofs.Histories.{undo-some, redo-some}
 use Rattle.laws.proofs.Sound.{Sound, Stays, undo-stays, redo-stays}
 use Rattle.laws.proofs.KeysSound.{key-sound, some-sound}

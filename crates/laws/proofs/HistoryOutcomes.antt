@@ -16,7 +16,7 @@ use Rattle.spec.specs.History.{edit, finish, finish-in-column, cancel, undo-onc
 use Rattle.spec.specs.Commands.{clamp-cursor, start-insert, yanked, delete-lines, delete-bytes, delete-region, yank-region, change-region, operate, move-to, run-motion, operate-lines}
 use Rattle.laws.proofs.LineBounds.{line-start-down, line-end-up, first-nonblank-within, clamp-within, line-start-nth}
 use Rattle.laws.proofs.MotionBounds.{Leads-within, within, motion-within}
-use Rattle.laws.proofs.Edits.{Edits, no-edit, edits-then, moved-edits, start-insert-edits, yanked-edits, edit-edits, edit-within}
+use Rattle.laws.proofs.HistoryEdits.{Edits, no-edit, edits-then, moved-edits, start-insert-edits, yanked-edits, edit-edits, edit-within}
 use Rattle.laws.proofs.Phases.{typing, waiting, Next, goes-on, over, back, forth, behind-operator, behind-motion}
 
 abbrev pub Within : Ed → Type 0
