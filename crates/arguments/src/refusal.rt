@@ -3,7 +3,7 @@ use std::alloc::AllocError;
 use std::alloc::Refused;
 use std::fmt;
 
-#[derive(Debug, PartialEq, Drop)]
+#[derive(Drop)]
 pub enum Refusal {
     // how the program is called
     Usage(&'static str),
