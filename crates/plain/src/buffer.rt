@@ -1,13 +1,12 @@
 //! The text in one piece, with the cursor in it.
 ghost use mathlib.Core.Path.{_≡_};
 ghost use mathlib.Core.List.{_++_};
-ghost use Prim.Native.Nat.{_+_, _-_, _<_, _≤_, min};
+ghost use Prim.Native.Nat.{_+_, _-_, _≤_, min};
 ghost use lib.ListN.{length, take, drop};
 ghost use Rattle.std.specs.Of.Vec.{vec-items, vec-len};
 ghost use Rattle.std.specs.Results.{Cases as ByOk};
 use crate::fault::Fault;
 use crate::fault::FaultFromAlloc;
-use std::alloc::AllocError;
 use std::alloc::Global;
 
 #[derive(Drop)]

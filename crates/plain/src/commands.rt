@@ -1,5 +1,4 @@
 //! What each command does. One that can't be done returns with nothing changed.
-ghost use Prim.Native.Nat.{_≤_};
 use crate::editor::Editor;
 use crate::fault::Fault;
 use crate::fault::FaultFromAlloc;

@@ -2,7 +2,7 @@
 use std::alloc::AllocError;
 use std::alloc::Refused;
 
-#[derive(Clone, Copy, Debug, PartialEq, Eq)]
+#[derive(Clone, Copy, Debug)]
 pub enum Fault {
     OutOfMemory,
 }

@@ -1,6 +1,4 @@
 //! The commands that can be undone and redone, each with a whole text.
-ghost use mathlib.Core.Path.{_≡_};
-ghost use Prim.Native.Nat.{_≤_};
 use crate::buffer::Buffer;
 use crate::fault::Fault;
 use crate::fault::FaultFromRefused;

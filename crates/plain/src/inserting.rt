@@ -2,13 +2,12 @@
 use crate::editor::Editor;
 use crate::editor::Mode;
 use crate::fault::Fault;
+use plain_keys::ESCAPE;
 use plain_keys::Opening;
 use plain_lines::column_of;
 use plain_lines::first_nonblank;
 use plain_lines::line_end;
 use plain_lines::line_start;
-
-const ESCAPE: u8 = 0x1b;
 
 const BACKSPACE: u8 = 0x08;
 

@@ -16,5 +16,3 @@ pub use fault::FaultFromAlloc;
 pub use fault::FaultFromRefused;
 pub use plain_lines::Size;
 pub use screen::Position;
-pub use screen::PositionDebug;
-pub use screen::PositionPartialEq;

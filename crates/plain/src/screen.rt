@@ -17,7 +17,7 @@ use plain_lines::nth_line;
 const CANCEL: u8 = 0x18;
 
 // A row and a column of the screen, counted from 0.
-#[derive(Clone, Copy, Debug, PartialEq, Eq)]
+#[derive(Clone, Copy)]
 pub struct Position {
     pub row: usize,
     pub column: usize,

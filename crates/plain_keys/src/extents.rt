@@ -1,5 +1,5 @@
 //! What an operator takes that stands before a motion, or is typed twice.
-ghost use Prim.Native.Nat.{_<_, _≤_};
+ghost use Prim.Native.Nat.{_≤_};
 ghost use lib.ListN.{length};
 ghost use Rattle.std.specs.Options.{Cases as BySome};
 use crate::count::Count;

@@ -1,6 +1,8 @@
 //! What a byte means as a key where a command is typed.
 use crate::motion::Motion;
 
+pub const ESCAPE: u8 = 0x1b;
+
 #[derive(Clone, Copy, PartialEq, Eq)]
 pub enum Operator {
     Delete,

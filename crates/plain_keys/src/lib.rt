@@ -10,6 +10,7 @@ pub use extents::Extent;
 pub use extents::Shape;
 pub use extents::lines_from;
 pub use extents::taken_by;
+pub use keys::ESCAPE;
 pub use keys::Opening;
 pub use keys::Operator;
 pub use keys::Side;

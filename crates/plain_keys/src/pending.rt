@@ -1,5 +1,6 @@
 //! A command as far as it is typed, and what the next key makes of it.
 use crate::count::Count;
+use crate::keys::ESCAPE;
 use crate::keys::Key;
 use crate::keys::Opening;
 use crate::keys::Operator;
@@ -7,8 +8,6 @@ use crate::keys::OperatorPartialEq;
 use crate::keys::Side;
 use crate::keys::key_of;
 use crate::motion::Motion;
-
-const ESCAPE: u8 = 0x1b;
 
 // A key that waits for another one.
 #[derive(Clone, Copy)]

@@ -2,7 +2,6 @@
 //! an empty line counts as a word where one looks for beginnings.
 ghost use Prim.Native.Nat.{_+_, _<_, _≤_};
 ghost use lib.ListN.{length};
-ghost use Rattle.std.specs.Options.{Cases as BySome};
 use crate::text::Sort;
 use crate::text::SortPartialEq;
 use crate::text::sort_of;

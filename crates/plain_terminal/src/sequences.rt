@@ -1,6 +1,5 @@
 //! What bytes ask of a terminal: to write, to move the cursor, or to clear the rest of a row.
-ghost use mathlib.Core.Path.{_≡_};
-ghost use Prim.Native.Nat.{_+_, _<_, _≤_};
+ghost use Prim.Native.Nat.{_<_, _≤_};
 ghost use lib.ListN.{length};
 ghost use Rattle.std.specs.Options.{Cases as BySome};
 
@@ -9,7 +8,7 @@ const ESCAPE: u8 = 0x1b;
 // Numbers stop here.
 const MOST: usize = 9_999;
 
-#[derive(Clone, Copy, Debug, PartialEq, Eq)]
+#[derive(Clone, Copy)]
 pub enum Action {
     Write(u8),
     // to a row and a column counted from 1; 0 is a number left out
