@@ -70,17 +70,17 @@ unfolding delete-region delete-bytes
 delete-region-stands e r h =
     cond-both (r .linewise) _ _ Stands (λ _. finish-stands _ (delete-lines-rests (yanked e r) r)) (λ _. cond-both (leb (r .to) (r .from)) _ _ Stands (λ _. cancel-stands e h) (λ _. finish-stands _ (clamp-cursor-rests _)))
 
-yank-region-stands : (e : Ed) (r : Region) → Rests e → Takes (e .text) r → Stands (yank-region e r)
+yank-region-stands : (e : Ed) (r : Region) → Rests e → Takes (e .text) (e .cursor) r → Stands (yank-region e r)
 unfolding yank-region yanked
 yank-region-stands e r h k =
-    cond-both (r .linewise) _ _ Stands (λ _. finish-in-column-stands (yanked e r) h) (λ q. cond-both (leb (r .to) (r .from)) _ _ Stands (λ _. cancel-stands e h) (λ _. finish-stands (with-cursor (yanked e r) (r .from)) (k .from-stands q)))
+    cond-both (r .linewise) _ _ Stands (λ _. finish-in-column-stands (yanked e r) h) (λ q. cond-both (leb (r .to) (r .from)) _ _ Stands (λ _. cancel-stands e h) (λ _. finish-stands (with-cursor (yanked e r) (r .from)) (k .from-stands q h)))
 
-change-region-stands : (e : Ed) (r : Region) → Rests e → Takes (e .text) r → Stands (change-region e r)
+change-region-stands : (e : Ed) (r : Region) → Rests e → Takes (e .text) (e .cursor) r → Stands (change-region e r)
 unfolding change-region yanked
 change-region-stands e r h k =
     start-insert-stands _ (cond-both (leb (r .to) (r .from)) e _ (λ (f : Ed). f .cursor ≤ length (f .text)) (λ _. h .within) (λ _. edit-within (yanked e r) (r .from) (r .to) [] (r .from) (k .from-within) (omega arith)))
 
-pub operate-stands : (o : Operator) (e : Ed) (r : Region) → Rests e → Takes (e .text) r → Stands (operate o e r)
+pub operate-stands : (o : Operator) (e : Ed) (r : Region) → Rests e → Takes (e .text) (e .cursor) r → Stands (operate o e r)
 unfolding operate
 operate-stands delete e r h k = delete-region-stands e r h
 operate-stands yank e r h k = yank-region-stands e r h k
@@ -95,12 +95,12 @@ move-to-stands e m g k =
 
 pub run-motion-stands : (e : Ed) (p : Prefix) (m : Motion) → Rests e → Stands (run-motion e p m)
 unfolding run-motion
-run-motion-stands e (counting n) m h = at (motion-target false (e .text) (e .cursor) (e .kept-column) n m) refl (motion-leads false (e .text) (e .cursor) (e .kept-column) n m h)
+run-motion-stands e (counting n) m h = at (motion-target false (e .text) (e .cursor) (e .kept-column) n m) refl (motion-leads false (e .text) (e .cursor) (e .kept-column) n m (h .within))
   where
     at : (g : Option Target) → motion-target false (e .text) (e .cursor) (e .kept-column) n m ≡ g → Each (Leads false (e .text) (e .cursor)) g → Stands (run-motion e (counting n) m)
     at none q k = rw q (cancel-stands e h)
-    at (some g) q k = rw q (move-to-stands e m g (k .alone refl))
-run-motion-stands e (operating o a b) m h = at (motion-target true (e .text) (e .cursor) (e .kept-column) (total-count (operating o a b)) m) refl (motion-leads true (e .text) (e .cursor) (e .kept-column) (total-count (operating o a b)) m h)
+    at (some g) q k = rw q (move-to-stands e m g (k .alone refl h))
+run-motion-stands e (operating o a b) m h = at (motion-target true (e .text) (e .cursor) (e .kept-column) (total-count (operating o a b)) m) refl (motion-leads true (e .text) (e .cursor) (e .kept-column) (total-count (operating o a b)) m (h .within))
   where
     at : (g : Option Target) → motion-target true (e .text) (e .cursor) (e .kept-column) (total-count (operating o a b)) m ≡ g → Each (Leads true (e .text) (e .cursor)) g → Stands (run-motion e (operating o a b) m)
     at none q k = rw q (cancel-stands e h)
@@ -110,7 +110,7 @@ pub operate-lines-stands : (o : Operator) (e : Ed) (n : ℕ) → Rests e → Sta
 unfolding operate-lines
 operate-lines-stands o e n h = at (lines-region (e .text) (e .cursor) n) refl (lines-region-takes (e .text) (e .cursor) n (h .within))
   where
-    at : (r : Option Region) → lines-region (e .text) (e .cursor) n ≡ r → Each (Takes (e .text)) r → Stands (operate-lines o e n)
+    at : (r : Option Region) → lines-region (e .text) (e .cursor) n ≡ r → Each (Takes (e .text) (e .cursor)) r → Stands (operate-lines o e n)
     at none q k = rw q (cancel-stands e h)
     at (some r) q k = rw q (operate-stands o e r h k)
 
