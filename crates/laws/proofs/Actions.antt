@@ -6,7 +6,7 @@ use Prim.Native.Nat.{ℕ, zero, suc, _+_, _-_, _≤_, max}
 use native.Mathlib.Omega.{arith}
 use lib.ListN.{length, replicate, length-replicate}
 use lib.Dec.{eqb, ltb, leb}
-use Rattle.std.proofs.shelf.Tests.{cond-both, false≢true}
+use Rattle.std.proofs.shelf.Tests.{cond-both, leb-false}
 use Rattle.spec.specs.Bytes.{newline, space, tab, return, backspace, rubout, escape, is-blank, is-typeable}
 use Rattle.spec.specs.Text.{Text, copies, skip-forward, line-end, line-start, column}
 use Rattle.spec.specs.Motions.{times, or-one}
@@ -14,7 +14,8 @@ use Rattle.spec.specs.Keys.{Action, delete-chars, join-lines, put-after, put-be
 use Rattle.spec.specs.Editor.{Ed, with-cursor}
 use Rattle.spec.specs.History.{edit}
 use Rattle.spec.specs.Commands.{clamp-cursor, delete-chars-by, write-over, join-once, join-by, put-lines-below, put-lines-above, put-bytes, put-after-by, put-before-by, insert-at, insert-line, undo-by, redo-by, run-action, type-byte, erase-byte, leave-insert, insert-key}
-use Rattle.laws.proofs.LineBounds.{skip-forward-up, line-start-down, line-end-within, first-nonblank-within, clamp-within}
+use Rattle.laws.proofs.TextLines.{skip-forward-up, line-start-down, line-end-within}
+use Rattle.laws.proofs.Standing.{first-nonblank-stands, clamp-stands}
 use Rattle.laws.proofs.HistoryEdits.{Edits, no-edit, edits-then, moved-edits, edit-edits, edit-length, edit-within}
 use Rattle.laws.proofs.Phases.{typing, goes-on, over, back, forth, behind-action, next}
 use Rattle.laws.proofs.HistoryOutcomes.{Within, Idle, Outcome, types, undoes, redoes, cancels, finishes, starts-insert, either, by-test, deletes}
@@ -27,7 +28,7 @@ or-one-positive (suc n) = omega arith
 deletes-chars : (e : Ed) (n : ℕ) → Idle e → Outcome e over (delete-chars-by e n)
 unfolding delete-chars-by
 deletes-chars e n w =
-    either e over (leb (line-end (e .text) (e .cursor)) (e .cursor)) _ _ (λ _. cancels e over w) (λ _. deletes e _ (record { from = w .within; order = λ p. absurd (false≢true p) }) w)
+    either e over (leb (line-end (e .text) (e .cursor)) (e .cursor)) _ _ (λ _. cancels e over w) (λ q. deletes e _ (record { from-within = w .within; to-within = omega (arith, line-end-within (e .text) (e .cursor) (w .within)); ordered = omega (arith, leb-false (line-end (e .text) (e .cursor)) (e .cursor) q); from-stands = λ _ s. s }) w)
 
 -- r
 pub writes-over : (e : Ed) (n c : ℕ) → Idle e → Outcome e over (write-over e n c)
@@ -74,7 +75,7 @@ puts-lines-below e n h w =
     let b : ℕ = line-end (e .text) (e .cursor) in
     let new : Text = copies n (newline ∷ e .register .bytes) in
     let k : b ≤ length (e .text) = line-end-within (e .text) (e .cursor) (w .within) in
-    finishes e _ (moved-edits e (edit e b b new (e .cursor)) _ (edit-edits e b b new (e .cursor) (omega arith) k)) (first-nonblank-within _ (suc b) (omega (arith, edit-length e b b new (e .cursor) (omega arith) k, copies-positive n newline (e .register .bytes) h)))
+    finishes e _ (moved-edits e (edit e b b new (e .cursor)) _ (edit-edits e b b new (e .cursor) (omega arith) k)) (first-nonblank-stands _ (suc b) (omega (arith, edit-length e b b new (e .cursor) (omega arith) k, copies-positive n newline (e .register .bytes) h)) .within)
 
 puts-lines-above : (e : Ed) (n : ℕ) → Idle e → Outcome e over (put-lines-above e n)
 unfolding put-lines-above
@@ -82,12 +83,12 @@ puts-lines-above e n w =
     let a : ℕ = line-start (e .text) (e .cursor) in
     let new : Text = copies n (e .register .bytes ++ (newline ∷ [])) in
     let k : a ≤ length (e .text) = omega (arith, line-start-down (e .text) (e .cursor)) in
-    finishes e _ (moved-edits e (edit e a a new (e .cursor)) _ (edit-edits e a a new (e .cursor) (omega arith) k)) (first-nonblank-within _ a (omega (arith, edit-length e a a new (e .cursor) (omega arith) k)))
+    finishes e _ (moved-edits e (edit e a a new (e .cursor)) _ (edit-edits e a a new (e .cursor) (omega arith) k)) (first-nonblank-stands _ a (omega (arith, edit-length e a a new (e .cursor) (omega arith) k)) .within)
 
 puts-bytes : (e : Ed) (n a : ℕ) → Idle e → a ≤ length (e .text) → Outcome e over (put-bytes e n a)
 unfolding put-bytes clamp-cursor
 puts-bytes e n a w h =
-    either e over (eqb (length (e .register .bytes)) 0) _ _ (λ _. cancels e over w) (λ _. finishes e _ (moved-edits e (edit e a a (copies n (e .register .bytes)) _) _ (edit-edits e a a (copies n (e .register .bytes)) _ (omega arith) h)) (clamp-within _ _))
+    either e over (eqb (length (e .register .bytes)) 0) _ _ (λ _. cancels e over w) (λ _. finishes e _ (moved-edits e (edit e a a (copies n (e .register .bytes)) _) _ (edit-edits e a a (copies n (e .register .bytes)) _ (omega arith) h)) (clamp-stands _ _ .within))
 
 puts-after : (e : Ed) (n : ℕ) → 1 ≤ n → Idle e → Outcome e over (put-after-by e n)
 unfolding put-after-by
@@ -127,7 +128,7 @@ runs-action e n put-after w = puts-after e (or-one n) (or-one-positive n) w
 runs-action e n put-before w = puts-before e (or-one n) w
 runs-action e n insert-before w = inserts-at e (e .cursor) (w .within)
 runs-action e n insert-after w = inserts-at e _ (omega (arith, line-end-within (e .text) (e .cursor) (w .within)))
-runs-action e n insert-at-first-nonblank w = inserts-at e _ (first-nonblank-within (e .text) (e .cursor) (w .within))
+runs-action e n insert-at-first-nonblank w = inserts-at e _ (first-nonblank-stands (e .text) (e .cursor) (w .within) .within)
 runs-action e n insert-at-line-end w = inserts-at e _ (line-end-within (e .text) (e .cursor) (w .within))
 runs-action e n insert-line-below w = inserts-line e _ _ (line-end-within (e .text) (e .cursor) (w .within)) (omega arith)
 runs-action e n insert-line-above w =

@@ -3,19 +3,19 @@ use mathlib.Core.Path.{_≡_, refl}
 use mathlib.Core.Bool.{Bool, true, false, cond}
 use mathlib.Core.List.{[]}
 use mathlib.Core.Option.{Option, some, none}
-use Prim.Native.Nat.{ℕ, suc, _+_, _-_, _≤_, min, max}
+use Prim.Native.Nat.{ℕ, suc, _-_, _≤_}
 use native.Mathlib.Omega.{arith}
 use lib.ListN.{length}
 use lib.Dec.{ltb, leb}
-use Rattle.std.proofs.shelf.Tests.{cond-both, false≢true, leb-false}
-use Rattle.spec.specs.Text.{Text, line-end, line-start, line-of, line-count, nth-line}
-use Rattle.spec.specs.Motions.{Motion, Target, Extent, exclusive, inclusive, linewise, Region, times, keeps-column, region, lines-region}
+use Rattle.std.proofs.shelf.Tests.{cond-both}
+use Rattle.spec.specs.Motions.{Motion, Target, Region, times, keeps-column, region}
 use Rattle.spec.specs.Keys.{Operator, delete, yank, change, Prefix, counting, operating, Pending}
 use Rattle.spec.specs.Editor.{Ed, with-kept-column, with-pending}
 use Rattle.spec.specs.History.{edit, finish, finish-in-column, cancel, undo-once, redo-once}
 use Rattle.spec.specs.Commands.{clamp-cursor, start-insert, yanked, delete-lines, delete-bytes, delete-region, yank-region, change-region, operate, move-to, run-motion, operate-lines}
-use Rattle.laws.proofs.LineBounds.{line-start-down, line-end-up, first-nonblank-within, clamp-within, line-start-nth}
-use Rattle.laws.proofs.MotionBounds.{Leads-within, within, motion-within}
+use Rattle.laws.proofs.Standing.{first-nonblank-stands, clamp-stands}
+use Rattle.laws.proofs.TextMotions.{Each}
+use Rattle.laws.proofs.Targets.{Leads, motion-leads, Takes, region-takes, lines-region-takes}
 use Rattle.laws.proofs.HistoryEdits.{Edits, no-edit, edits-then, moved-edits, start-insert-edits, yanked-edits, edit-edits, edit-within}
 use Rattle.laws.proofs.Phases.{typing, waiting, Next, goes-on, over, back, forth, behind-operator, behind-motion}
 
@@ -65,24 +65,6 @@ by-test e false x y f g p q = q
 
 -- Operators.
 
--- what an operator may be given
-pub record Fits (t : Text) (r : Region) : Type 0 where
-  pub from : r .from ≤ length t
-  pub order : r .linewise ≡ true → r .from ≤ r .to
-
-not-lines : {P : Type 0} → false ≡ true → P
-not-lines e = absurd (false≢true e)
-
-extent-fits : (t : Text) (a p : ℕ) (x : Extent) → a ≤ length t → Fits t (region t a (record { place = p; extent = x }))
-unfolding region
-extent-fits t a p exclusive h = record { from = omega arith; order = not-lines }
-extent-fits t a p inclusive h = record { from = omega arith; order = not-lines }
-extent-fits t a p linewise h =
-    record { from = omega (arith, line-start-down t (min a p)); order = λ _. omega (arith, line-start-down t (min a p), line-end-up t (max a p)) }
-
-pub region-fits : (t : Text) (a : ℕ) (g : Target) → a ≤ length t → Fits t (region t a g)
-region-fits t a g h = extent-fits t a (g .place) (g .extent) h
-
 -- the edit with which whole lines go
 abbrev lines-cut : Ed → ℕ → ℕ → Ed
 lines-cut e a b =
@@ -99,7 +81,7 @@ delete-lines-edits e r h k = moved-edits e (lines-cut e (r .from) (r .to)) _ (li
 
 delete-lines-within : (e : Ed) (r : Region) → Within (delete-lines e r)
 unfolding delete-lines
-delete-lines-within e r = first-nonblank-within _ _ (omega arith)
+delete-lines-within e r = first-nonblank-stands _ _ (omega arith) .within
 
 delete-bytes-edits : (e : Ed) (r : Region) → r .from ≤ length (e .text) → r .from ≤ r .to → Edits e (delete-bytes e r)
 unfolding delete-bytes clamp-cursor
@@ -107,12 +89,12 @@ delete-bytes-edits e r h k = moved-edits e (edit e (r .from) (r .to) [] (r .from
 
 delete-bytes-within : (e : Ed) (r : Region) → Within (delete-bytes e r)
 unfolding delete-bytes clamp-cursor
-delete-bytes-within e r = clamp-within _ _
+delete-bytes-within e r = clamp-stands _ _ .within
 
-module _ (e : Ed) (r : Region) (fits : Fits (e .text) r) (w : Idle e) where
+module _ (e : Ed) (r : Region) (takes : Takes (e .text) (e .cursor) r) (w : Idle e) where
   yanked-fits : r .from ≤ length (yanked e r .text)
   unfolding yanked
-  yanked-fits = fits .from
+  yanked-fits = takes .from-within
 
   yanked-within : Within (yanked e r)
   unfolding yanked
@@ -124,19 +106,19 @@ module _ (e : Ed) (r : Region) (fits : Fits (e .text) r) (w : Idle e) where
   pub deletes : Outcome e over (delete-region e r)
   unfolding delete-region
   deletes =
-      either e over (r .linewise) _ _ (λ l. finishes e _ (behind-yanked _ (delete-lines-edits (yanked e r) r yanked-fits (fits .order l))) (delete-lines-within (yanked e r) r)) (λ _. either e over (leb (r .to) (r .from)) _ _ (λ _. cancels e over w) (λ b. finishes e _ (behind-yanked _ (delete-bytes-edits (yanked e r) r yanked-fits (omega (arith, leb-false (r .to) (r .from) b)))) (delete-bytes-within (yanked e r) r)))
+      either e over (r .linewise) _ _ (λ _. finishes e _ (behind-yanked _ (delete-lines-edits (yanked e r) r yanked-fits (takes .ordered))) (delete-lines-within (yanked e r) r)) (λ _. either e over (leb (r .to) (r .from)) _ _ (λ _. cancels e over w) (λ _. finishes e _ (behind-yanked _ (delete-bytes-edits (yanked e r) r yanked-fits (takes .ordered))) (delete-bytes-within (yanked e r) r)))
 
   yanks : Outcome e over (yank-region e r)
   unfolding yank-region
   yanks =
-      either e over (r .linewise) _ _ (λ _. finishes-in-column e _ (yanked-edits e r) yanked-within) (λ _. either e over (leb (r .to) (r .from)) _ _ (λ _. cancels e over w) (λ b. finishes e _ (moved-edits e (yanked e r) (r .from) (yanked-edits e r)) yanked-fits))
+      either e over (r .linewise) _ _ (λ _. finishes-in-column e _ (yanked-edits e r) yanked-within) (λ _. either e over (leb (r .to) (r .from)) _ _ (λ _. cancels e over w) (λ _. finishes e _ (moved-edits e (yanked e r) (r .from) (yanked-edits e r)) yanked-fits))
 
   changes : Outcome e (goes-on typing) (change-region e r)
   unfolding change-region
   changes =
-      starts-insert e _ (cond-both (leb (r .to) (r .from)) e _ (Edits e) (λ _. no-edit e) (λ b. behind-yanked _ (edit-edits (yanked e r) (r .from) (r .to) [] (r .from) (omega (arith, leb-false (r .to) (r .from) b)) yanked-fits))) (cond-both (leb (r .to) (r .from)) e _ Within (λ _. w .within) (λ b. edit-within (yanked e r) (r .from) (r .to) [] (r .from) (omega (arith, leb-false (r .to) (r .from) b)) yanked-fits (omega arith)))
+      starts-insert e _ (cond-both (leb (r .to) (r .from)) e _ (Edits e) (λ _. no-edit e) (λ _. behind-yanked _ (edit-edits (yanked e r) (r .from) (r .to) [] (r .from) (takes .ordered) yanked-fits))) (cond-both (leb (r .to) (r .from)) e _ Within (λ _. w .within) (λ _. edit-within (yanked e r) (r .from) (r .to) [] (r .from) (takes .ordered) yanked-fits (omega arith)))
 
-pub operates : (o : Operator) (e : Ed) (r : Region) → Fits (e .text) r → Idle e → Outcome e (behind-operator o) (operate o e r)
+pub operates : (o : Operator) (e : Ed) (r : Region) → Takes (e .text) (e .cursor) r → Idle e → Outcome e (behind-operator o) (operate o e r)
 unfolding operate
 operates delete e r f w = deletes e r f w
 operates yank e r f w = yanks e r f w
@@ -149,30 +131,20 @@ unfolding move-to
 moves-to e m g h =
     either e over (keeps-column m) _ _ (λ _. finishes-in-column e _ (moved-edits e e (g .place) (no-edit e)) h) (λ _. finishes e _ (moved-edits e e (g .place) (no-edit e)) h)
 
--- what is done with a target, where there is one
-if-led : (e : Ed) → Idle e → (x : Next) (f : Target → Ed) (o : Option Target) → Leads-within (e .text) o → ((g : Target) → g .place ≤ length (e .text) → Outcome e x (f g)) → Outcome e x (elim o [ none ↦ cancel e | some g ↦ f g ])
-if-led e w x f none l p = cancels e x w
-if-led e w x f (some g) (within l) p = p g l
+-- what is done with a target or a region, where there is one
+if-any : {A : Type 0} (e : Ed) → Idle e → (x : Next) (f : A → Ed) (P : A → Type 0) (o : Option A) → Each P o → ((g : A) → P g → Outcome e x (f g)) → Outcome e x (elim o [ none ↦ cancel e | some g ↦ f g ])
+if-any e w x f P none l p = cancels e x w
+if-any e w x f P (some g) l p = p g l
 
 pub runs-motion : (e : Ed) (p : Prefix) (m : Motion) → Idle e → Outcome e (behind-motion p) (run-motion e p m)
 unfolding run-motion
 runs-motion e (counting n) m w =
-    if-led e w over (move-to e m) _ (motion-within (e .text) (e .cursor) (w .within) false (e .kept-column) _ m) (moves-to e m)
+    if-any e w over (move-to e m) (Leads false (e .text) (e .cursor)) _ (motion-leads false (e .text) (e .cursor) (e .kept-column) _ m (w .within)) (λ g l. moves-to e m g (l .within))
 runs-motion e (operating o a b) m w =
-    if-led e w (behind-operator o) (λ g. operate o e (region (e .text) (e .cursor) g)) _ (motion-within (e .text) (e .cursor) (w .within) true (e .kept-column) _ m) (λ g _. operates o e _ (region-fits (e .text) (e .cursor) g (w .within)) w)
+    if-any e w (behind-operator o) (λ g. operate o e (region (e .text) (e .cursor) g)) (Leads true (e .text) (e .cursor)) _ (motion-leads true (e .text) (e .cursor) (e .kept-column) _ m (w .within)) (λ g l. operates o e _ (region-takes true (e .text) (e .cursor) g (w .within) l) w)
 
 -- dd yy cc
 pub operates-lines : (o : Operator) (e : Ed) (n : ℕ) → Idle e → Outcome e (behind-operator o) (operate-lines o e n)
-unfolding operate-lines lines-region
-operates-lines o e n w = at (leb (line-of (e .text) (e .cursor) + n) (line-count (e .text)))
-  where
-    lines : Region
-    lines = record { from = line-start (e .text) (e .cursor); to = line-end (e .text) (nth-line (e .text) (line-of (e .text) (e .cursor) + (n - 1))); linewise = true }
-
-    lines-fit : Fits (e .text) lines
-    lines-fit =
-        record { from = omega (arith, line-start-down (e .text) (e .cursor)); order = λ _. omega (arith, line-start-nth (e .text) (e .cursor) (n - 1) (w .within), line-end-up (e .text) (nth-line (e .text) (line-of (e .text) (e .cursor) + (n - 1)))) }
-
-    at : (b : Bool) → Outcome e (behind-operator o) (elim (cond {A = Option Region} b (some lines) none) [ none ↦ cancel e | some r ↦ operate o e r ])
-    at true = operates o e lines lines-fit w
-    at false = cancels e _ w
+unfolding operate-lines
+operates-lines o e n w =
+    if-any e w (behind-operator o) (operate o e) (Takes (e .text) (e .cursor)) _ (lines-region-takes (e .text) (e .cursor) n (w .within)) (λ r k. operates o e r k w)

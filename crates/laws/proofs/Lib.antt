@@ -14,8 +14,6 @@ pub mod Harmless
 pub mod Sight
 pub mod Witnesses
 pub mod Replacements
-pub mod LineBounds
-pub mod MotionBounds
 pub mod Weights
 pub mod HistoryEdits
 pub mod Phases

@@ -10,7 +10,7 @@ use Rattle.spec.specs.Keys.{Pending, no-prefix}
 use Rattle.spec.specs.Editor.{Change, UndoUnit, Ed, with-pending}
 use Rattle.spec.specs.History.{recorded, finish, undo-once, redo-once}
 use Rattle.spec.specs.Dispatch.{noted, typed-key}
-use Rattle.laws.proofs.LineBounds.{clamp-within}
+use Rattle.laws.proofs.Standing.{clamp-stands}
 use Rattle.laws.proofs.HistoryEdits.{Edits}
 use Rattle.laws.proofs.Phases.{Phase, typing, waiting, phase, Next, goes-on, over, back, forth, next}
 use Rattle.laws.proofs.HistoryOutcomes.{Within, Idle, closed, Outcome, waits, types, refuses, ends, undoes, redoes}
@@ -114,14 +114,14 @@ undo-stays e w q = at (e .undo) refl
   where
     at : (us : List UndoUnit) → e .undo ≡ us → Stays e (undo-once e)
     at [] n = rw (undo-none e n) (stays-same e w q)
-    at (u ∷ us) n = rw (undo-some e u us n) (record { within = clamp-within _ _; changes = refl; keys = refl; last-keys = refl; register = refl })
+    at (u ∷ us) n = rw (undo-some e u us n) (record { within = clamp-stands _ _ .within; changes = refl; keys = refl; last-keys = refl; register = refl })
 
 pub redo-stays : (e : Ed) → Within e → e .command .changes ≡ [] → Stays e (redo-once e)
 redo-stays e w q = at (e .redo) refl
   where
     at : (us : List UndoUnit) → e .redo ≡ us → Stays e (redo-once e)
     at [] n = rw (redo-none e n) (stays-same e w q)
-    at (u ∷ us) n = rw (redo-some e u us n) (record { within = clamp-within _ _; changes = refl; keys = refl; last-keys = refl; register = refl })
+    at (u ∷ us) n = rw (redo-some e u us n) (record { within = clamp-stands _ _ .within; changes = refl; keys = refl; last-keys = refl; register = refl })
 
 module _ (f : Ed → Ed) (stays : (e : Ed) → Within e → e .command .changes ≡ [] → Stays e (f e)) where
   pub times-stays : (n : ℕ) (e : Ed) → Within e → e .command .changes ≡ [] → Stays e (times n f e)
