@@ -1,5 +1,5 @@
 -- What becomes of the editor at commands of one key, and while inserting.
-use mathlib.Core.Path.{_≡_}
+use mathlib.Core.Path.{_≡_, _∙_}
 use mathlib.Core.Bool.{true, _&&_, _||_, cond}
 use mathlib.Core.List.{[], _∷_, _++_}
 use Prim.Native.Nat.{ℕ, zero, suc, _+_, _-_, _≤_, max}
@@ -11,18 +11,16 @@ use Rattle.spec.specs.Bytes.{newline, space, tab, return, backspace, rubout, es
 use Rattle.spec.specs.Text.{Text, copies, skip-forward, line-end, line-start, column}
 use Rattle.spec.specs.Motions.{times, or-one}
 use Rattle.spec.specs.Keys.{Action, delete-chars, join-lines, put-after, put-before, insert-before, insert-after, insert-at-first-nonblank, insert-at-line-end, insert-line-below, insert-line-above, go-back, go-forth}
-use Rattle.spec.specs.Editor.{Ed, with-cursor}
+use Rattle.spec.specs.Editor.{Ed}
 use Rattle.spec.specs.History.{edit}
 use Rattle.spec.specs.Commands.{clamp-cursor, delete-chars-by, write-over, join-once, join-by, put-lines-below, put-lines-above, put-bytes, put-after-by, put-before-by, insert-at, insert-line, undo-by, redo-by, run-action, type-byte, erase-byte, leave-insert, insert-key}
 use Rattle.laws.proofs.TextLines.{skip-forward-up, line-start-down, line-end-within}
 use Rattle.laws.proofs.Standing.{first-nonblank-stands, clamp-stands}
-use Rattle.laws.proofs.HistoryEdits.{Edits, no-edit, edits-then, moved-edits, edit-edits, edit-length, edit-within}
+use Rattle.laws.proofs.TextMotions.{or-one-positive, times-keeps}
+use Rattle.laws.proofs.Edits.{copies-length, edit-inserting, edit-length, edit-within}
+use Rattle.laws.proofs.HistoryEdits.{Edits, no-edit, edits-then, moved-edits, edit-edits}
 use Rattle.laws.proofs.Phases.{typing, goes-on, over, back, forth, behind-action, next}
 use Rattle.laws.proofs.HistoryOutcomes.{Within, Idle, Outcome, types, undoes, redoes, cancels, finishes, starts-insert, either, by-test, deletes}
-
-or-one-positive : (n : ℕ) → 1 ≤ or-one n
-or-one-positive zero = omega arith
-or-one-positive (suc n) = omega arith
 
 -- x
 deletes-chars : (e : Ed) (n : ℕ) → Idle e → Outcome e over (delete-chars-by e n)
@@ -34,7 +32,7 @@ deletes-chars e n w =
 pub writes-over : (e : Ed) (n c : ℕ) → Idle e → Outcome e over (write-over e n c)
 unfolding write-over
 writes-over e n c w =
-    either e over (is-typeable c && leb (e .cursor + n) (line-end (e .text) (e .cursor))) _ _ (λ _. finishes e _ (edit-edits e (e .cursor) (e .cursor + n) (replicate n c) _ (omega arith) (w .within)) (edit-within e (e .cursor) (e .cursor + n) (replicate n c) _ (omega arith) (w .within) (simp length-replicate (omega arith)))) (λ _. cancels e over w)
+    either e over (is-typeable c && leb (e .cursor + n) (line-end (e .text) (e .cursor))) _ _ (λ _. finishes e _ (edit-edits e (e .cursor) (e .cursor + n) (replicate n c) _ (omega arith) (w .within)) (edit-within e (e .cursor) (e .cursor + n) (replicate n c) _ (w .within) (simp length-replicate (omega arith)))) (λ _. cancels e over w)
 
 -- J
 joined-edits : (e : Ed) → Within e → Edits e (join-once e)
@@ -47,15 +45,14 @@ joined-within : (e : Ed) → Within e → Within (join-once e)
 unfolding join-once
 joined-within e w =
     let b : ℕ = line-end (e .text) (e .cursor) in
-    cond-both (ltb b (length (e .text))) _ e Within (λ _. edit-within e b (skip-forward is-blank (e .text) (suc b)) (space ∷ []) b (omega (arith, skip-forward-up is-blank (e .text) (suc b))) (line-end-within (e .text) (e .cursor) w) (omega arith)) (λ _. w)
+    cond-both (ltb b (length (e .text))) _ e Within (λ _. edit-within e b (skip-forward is-blank (e .text) (suc b)) (space ∷ []) b (line-end-within (e .text) (e .cursor) w) (omega arith)) (λ _. w)
 
 pub joins-edits : (n : ℕ) (e : Ed) → Within e → Edits e (times n join-once e)
 joins-edits zero e w = no-edit e
 joins-edits (suc n) e w = edits-then e (join-once e) _ (joined-edits e w) (joins-edits n (join-once e) (joined-within e w))
 
 pub joins-within : (n : ℕ) (e : Ed) → Within e → Within (times n join-once e)
-joins-within zero e w = w
-joins-within (suc n) e w = joins-within n (join-once e) (joined-within e w)
+joins-within n e w = times-keeps Within join-once joined-within n e w
 
 joins : (e : Ed) (n : ℕ) → Idle e → Outcome e over (join-by e n)
 unfolding join-by
@@ -64,18 +61,13 @@ joins e n w =
 
 -- p and P
 
-copies-positive : (n c : ℕ) (t : Text) → 1 ≤ n → 1 ≤ length (copies n (c ∷ t))
-unfolding copies
-copies-positive zero c t h = absurd (omega arith)
-copies-positive (suc n) c t h = omega arith
-
 puts-lines-below : (e : Ed) (n : ℕ) → 1 ≤ n → Idle e → Outcome e over (put-lines-below e n)
 unfolding put-lines-below
 puts-lines-below e n h w =
     let b : ℕ = line-end (e .text) (e .cursor) in
     let new : Text = copies n (newline ∷ e .register .bytes) in
     let k : b ≤ length (e .text) = line-end-within (e .text) (e .cursor) (w .within) in
-    finishes e _ (moved-edits e (edit e b b new (e .cursor)) _ (edit-edits e b b new (e .cursor) (omega arith) k)) (first-nonblank-stands _ (suc b) (omega (arith, edit-length e b b new (e .cursor) (omega arith) k, copies-positive n newline (e .register .bytes) h)) .within)
+    finishes e _ (moved-edits e (edit e b b new (e .cursor)) _ (edit-edits e b b new (e .cursor) (omega arith) k)) (first-nonblank-stands _ (suc b) (edit-length e b b new (e .cursor) (suc b) k (omega (arith, copies-length n (newline ∷ e .register .bytes) h))) .within)
 
 puts-lines-above : (e : Ed) (n : ℕ) → Idle e → Outcome e over (put-lines-above e n)
 unfolding put-lines-above
@@ -83,7 +75,7 @@ puts-lines-above e n w =
     let a : ℕ = line-start (e .text) (e .cursor) in
     let new : Text = copies n (e .register .bytes ++ (newline ∷ [])) in
     let k : a ≤ length (e .text) = omega (arith, line-start-down (e .text) (e .cursor)) in
-    finishes e _ (moved-edits e (edit e a a new (e .cursor)) _ (edit-edits e a a new (e .cursor) (omega arith) k)) (first-nonblank-stands _ a (omega (arith, edit-length e a a new (e .cursor) (omega arith) k)) .within)
+    finishes e _ (moved-edits e (edit e a a new (e .cursor)) _ (edit-edits e a a new (e .cursor) (omega arith) k)) (first-nonblank-stands _ a (edit-length e a a new (e .cursor) a k (omega arith)) .within)
 
 puts-bytes : (e : Ed) (n a : ℕ) → Idle e → a ≤ length (e .text) → Outcome e over (put-bytes e n a)
 unfolding put-bytes clamp-cursor
@@ -108,7 +100,7 @@ inserts-at e a h = starts-insert e _ (moved-edits e e a (no-edit e)) h
 inserts-line : (e : Ed) (a to : ℕ) → a ≤ length (e .text) → to ≤ a + 1 → Outcome e (goes-on typing) (insert-line e a to)
 unfolding insert-line
 inserts-line e a to h k =
-    starts-insert e _ (edit-edits e a a (newline ∷ []) to (omega arith) h) (edit-within e a a (newline ∷ []) to (omega arith) h k)
+    starts-insert e _ (edit-edits e a a (newline ∷ []) to (omega arith) h) (edit-within e a a (newline ∷ []) to h k)
 
 -- u and control R
 
@@ -139,19 +131,15 @@ runs-action e n go-forth w = goes-forth e (or-one n) w
 -- Inserting.
 
 module _ (e : Ed) (w : Within e) (i : e .inserting ≡ true) where
-  edit-inserting : (a b : ℕ) (new : Text) (to : ℕ) → edit e a b new to .inserting ≡ true
-  unfolding edit
-  edit-inserting a b new to = cond-both _ (with-cursor e to) _ (λ f. f .inserting ≡ true) (λ _. i) (λ _. i)
-
   types-byte : (c : ℕ) → Outcome e (goes-on typing) (type-byte e c)
   unfolding type-byte
   types-byte c =
-      types (edit-edits e (e .cursor) (e .cursor) (c ∷ []) _ (omega arith) w) (edit-within e (e .cursor) (e .cursor) (c ∷ []) _ (omega arith) w (omega arith)) (edit-inserting _ _ _ _)
+      types (edit-edits e (e .cursor) (e .cursor) (c ∷ []) _ (omega arith) w) (edit-within e (e .cursor) (e .cursor) (c ∷ []) _ w (omega arith)) (edit-inserting e _ _ _ _ ∙ i)
 
   erases-byte : Outcome e (goes-on typing) (erase-byte e)
   unfolding erase-byte
   erases-byte =
-      either e _ (eqb (e .cursor) 0) e _ (λ _. types (no-edit e) w i) (λ _. types (edit-edits e (e .cursor - 1) (e .cursor) [] _ (omega arith) (omega arith)) (edit-within e (e .cursor - 1) (e .cursor) [] _ (omega arith) (omega arith) (omega arith)) (edit-inserting _ _ _ _))
+      either e _ (eqb (e .cursor) 0) e _ (λ _. types (no-edit e) w i) (λ _. types (edit-edits e (e .cursor - 1) (e .cursor) [] _ (omega arith) (omega arith)) (edit-within e (e .cursor - 1) (e .cursor) [] _ (omega arith) (omega arith)) (edit-inserting e _ _ _ _ ∙ i))
 
   leaves-insert : Outcome e over (leave-insert e)
   unfolding leave-insert

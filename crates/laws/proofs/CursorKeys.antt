@@ -16,8 +16,8 @@ use Rattle.spec.specs.History.{cancel}
 use Rattle.spec.specs.Dispatch.{argument-key, digit-key, operator-key, awaiter-key, command-key, normal-key, noted, typed-key, replay, repeat-last, repeats, scrolled, key}
 use Rattle.spec.specs.Promises.{first, next, Stands, Always-stands}
 use Rattle.laws.proofs.Standing.{line-start-stands}
-use Rattle.laws.proofs.TextMotions.{times-keeps}
-use Rattle.laws.proofs.Cursors.{Rests, rests-stands, stands-rests, cancel-stands, run-motion-stands, operate-lines-stands, write-over-stands, or-one-positive, run-action-stands, insert-key-stands}
+use Rattle.laws.proofs.TextMotions.{or-one-positive, times-keeps}
+use Rattle.laws.proofs.Cursors.{Rests, rests-stands, stands-rests, cancel-stands, run-motion-stands, operate-lines-stands, write-over-stands, run-action-stands, insert-key-stands}
 
 argument-key-stands : (e : Ed) (a : Argument) (p : Prefix) (k : ℕ) → Rests e → Stands (argument-key e a p k)
 unfolding argument-key

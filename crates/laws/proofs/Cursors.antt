@@ -3,9 +3,9 @@ use mathlib.Core.Path.{_≡_, refl, sym, ap, subst, subst₂, _∙_}
 use mathlib.Core.Bool.{true, false, _&&_, _||_}
 use mathlib.Core.List.{List, [], _∷_, _++_}
 use mathlib.Core.Option.{Option, some, none}
-use Prim.Native.Nat.{ℕ, zero, suc, _+_, _-_, _≤_, max}
+use Prim.Native.Nat.{ℕ, suc, _+_, _-_, _≤_, max}
 use native.Mathlib.Omega.{arith}
-use lib.ListN.{length, replicate, length-append, length-replicate, getD-replicate}
+use lib.ListN.{length, replicate, length-replicate, getD-replicate}
 use lib.Dec.{eqb, leb, ltb}
 use Rattle.std.proofs.shelf.Tests.{cond-both, true≢false, and-parts, eqb-true, eqb-false}
 use Rattle.std.proofs.shelf.Ways.{tells}
@@ -19,9 +19,9 @@ use Rattle.spec.specs.Commands.{clamp-cursor, start-insert, yanked, delete-line
 use Rattle.spec.specs.Promises.{Stands}
 use Rattle.laws.proofs.TextLines.{line-start-down, line-end-up, line-end-within}
 use Rattle.laws.proofs.Standing.{Stands-at, line-start-stands, first-nonblank-stands, clamp-stands, before-line-end-stands}
-use Rattle.laws.proofs.TextMotions.{times-keeps, Each}
+use Rattle.laws.proofs.TextMotions.{or-one-positive, times-keeps, Each}
 use Rattle.laws.proofs.Targets.{Leads, motion-leads, Takes, region-takes, lines-region-takes}
-use Rattle.laws.proofs.Edits.{edit-cursor, edit-inserting, edit-length, edit-stands, finish-text, finish-cursor}
+use Rattle.laws.proofs.Edits.{copies-length, edit-inserting, edit-length, edit-within, edit-stands, finish-text, finish-cursor}
 
 -- the cursor stands where it may outside of inserting
 abbrev pub Rests : Ed → Type 0
@@ -51,9 +51,6 @@ cancel-stands e h = finish-in-column-stands e h
 pub start-insert-stands : (e : Ed) → e .cursor ≤ length (e .text) → Stands (start-insert e)
 unfolding start-insert
 start-insert-stands e h = record { within = h; on-byte = λ q. absurd (true≢false q) }
-
-pub edit-within : (e : Ed) (a b : ℕ) (new : Text) (to : ℕ) → a ≤ length (e .text) → to ≤ a + length new → edit e a b new to .cursor ≤ length (edit e a b new to .text)
-edit-within e a b new to h l = rw (edit-cursor e a b new to) (edit-length e a b new to to h l)
 
 -- Operators.
 
@@ -139,11 +136,6 @@ unfolding join-by
 join-by-stands e n h =
     cond-both (ltb (line-end (e .text) (e .cursor)) (length (e .text))) _ _ Stands (λ _. finish-stands _ (times-keeps Rests join-once join-once-rests (max 1 (n - 1)) e h)) (λ _. cancel-stands e h)
 
-copies-length : (n : ℕ) (t : Text) → 1 ≤ n → length t ≤ length (copies n t)
-unfolding copies
-copies-length zero t l = absurd (omega arith)
-copies-length (suc n) t l = omega (arith, length-append t (copies n t))
-
 put-lines-below-stands : (e : Ed) (n : ℕ) → Rests e → 1 ≤ n → Stands (put-lines-below e n)
 unfolding put-lines-below
 put-lines-below-stands e n h l =
@@ -203,10 +195,6 @@ redo-by-stands : (e : Ed) (n : ℕ) → Rests e → Stands (redo-by e n)
 unfolding redo-by
 redo-by-stands e n h =
     cond-both (eqb (length (e .redo)) 0) _ _ Stands (λ _. cancel-stands e h) (λ _. finish-stands _ (times-keeps Rests redo-once redo-once-rests n e h))
-
-pub or-one-positive : (n : ℕ) → 1 ≤ or-one n
-or-one-positive zero = omega arith
-or-one-positive (suc n) = omega arith
 
 pub run-action-stands : (e : Ed) (n : ℕ) (a : Action) → Rests e → Stands (run-action e n a)
 unfolding run-action

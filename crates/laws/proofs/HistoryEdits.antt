@@ -6,8 +6,7 @@ use Prim.Native.Nat.{ℕ, _+_, _≤_, max}
 use native.Mathlib.Omega.{arith}
 use lib.ListN.{length, length-take, length-drop}
 use lib.Dec.{eqb}
-use Rattle.std.proofs.shelf.Tests.{cond-both, and-parts, eqb-true}
-use Rattle.lists.proofs.Replaced.{length-replaced}
+use Rattle.std.proofs.shelf.Tests.{cond-both}
 use Rattle.spec.specs.Text.{Text, part, replaced}
 use Rattle.spec.specs.Motions.{Region}
 use Rattle.spec.specs.Editor.{Change, Ed, with-text, with-cursor, with-changes}
@@ -118,16 +117,3 @@ module _ (e : Ed) (a b : ℕ) (new : Text) (to : ℕ) (order : a ≤ b) (within 
   unfolding edit
   edit-edits =
       cond-both (eqb (length (part (e .text) a b)) 0 && eqb (length new) 0) (with-cursor e to) _ (Edits e) (λ _. moved-edits e e to (no-edit e)) (λ _. changed-edits)
-
-  -- what was put in is there
-  pub edit-length : a + length new ≤ length (edit e a b new to .text)
-  unfolding edit
-  edit-length =
-      cond-both (eqb (length (part (e .text) a b)) 0 && eqb (length new) 0) (with-cursor e to) _ (λ f. a + length new ≤ length (f .text)) (λ q. omega (arith, eqb-true (length new) 0 (and-parts _ _ q .1))) (λ _. omega (arith, length-replaced (e .text) new a b within))
-
-  edit-cursor : edit e a b new to .cursor ≡ to
-  unfolding edit
-  edit-cursor = cond-both (eqb (length (part (e .text) a b)) 0 && eqb (length new) 0) (with-cursor e to) _ (λ f. f .cursor ≡ to) (λ _. refl) (λ _. refl)
-
-  pub edit-within : to ≤ a + length new → edit e a b new to .cursor ≤ length (edit e a b new to .text)
-  edit-within h = omega (arith, edit-length, edit-cursor)

@@ -16,7 +16,8 @@ use Rattle.spec.specs.Commands.{clamp-cursor, start-insert, yanked, delete-line
 use Rattle.laws.proofs.Standing.{first-nonblank-stands, clamp-stands}
 use Rattle.laws.proofs.TextMotions.{Each}
 use Rattle.laws.proofs.Targets.{Leads, motion-leads, Takes, region-takes, lines-region-takes}
-use Rattle.laws.proofs.HistoryEdits.{Edits, no-edit, edits-then, moved-edits, start-insert-edits, yanked-edits, edit-edits, edit-within}
+use Rattle.laws.proofs.Edits.{edit-within}
+use Rattle.laws.proofs.HistoryEdits.{Edits, no-edit, edits-then, moved-edits, start-insert-edits, yanked-edits, edit-edits}
 use Rattle.laws.proofs.Phases.{typing, waiting, Next, goes-on, over, back, forth, behind-operator, behind-motion}
 
 abbrev pub Within : Ed → Type 0
@@ -116,7 +117,7 @@ module _ (e : Ed) (r : Region) (takes : Takes (e .text) (e .cursor) r) (w : Idle
   changes : Outcome e (goes-on typing) (change-region e r)
   unfolding change-region
   changes =
-      starts-insert e _ (cond-both (leb (r .to) (r .from)) e _ (Edits e) (λ _. no-edit e) (λ _. behind-yanked _ (edit-edits (yanked e r) (r .from) (r .to) [] (r .from) (takes .ordered) yanked-fits))) (cond-both (leb (r .to) (r .from)) e _ Within (λ _. w .within) (λ _. edit-within (yanked e r) (r .from) (r .to) [] (r .from) (takes .ordered) yanked-fits (omega arith)))
+      starts-insert e _ (cond-both (leb (r .to) (r .from)) e _ (Edits e) (λ _. no-edit e) (λ _. behind-yanked _ (edit-edits (yanked e r) (r .from) (r .to) [] (r .from) (takes .ordered) yanked-fits))) (cond-both (leb (r .to) (r .from)) e _ Within (λ _. w .within) (λ _. edit-within (yanked e r) (r .from) (r .to) [] (r .from) yanked-fits (omega arith)))
 
 pub operates : (o : Operator) (e : Ed) (r : Region) → Takes (e .text) (e .cursor) r → Idle e → Outcome e (behind-operator o) (operate o e r)
 unfolding operate

@@ -2,7 +2,7 @@
 use mathlib.Core.Path.{_≡_, refl, ap, _∙_}
 use mathlib.Core.Bool.{false}
 use mathlib.Core.List.{List, [], _∷_, _++_, reverse, reverse-cons}
-use Prim.Native.Nat.{ℕ, zero, suc, _+_, _-_, _≤_}
+use Prim.Native.Nat.{ℕ, suc, _+_, _-_, _≤_}
 use native.Mathlib.Omega.{arith}
 use lib.ListN.{length, length-append}
 use lib.Dec.{eqb}
@@ -18,9 +18,10 @@ use Rattle.spec.specs.Dispatch.{noted, scrolled, key}
 use Rattle.spec.specs.Promises.{changes-weight, units-weight, weight}
 use Rattle.spec.specs.HistoryLaws.{unit-changes, Undone, Runs, Moved, undoing, redoing, Between-is-bounded}
 use Rattle.laws.proofs.Weights.{changes-weight-append, unmade-weight, remade-weight}
+use Rattle.laws.proofs.TextMotions.{times-keeps}
 use Rattle.laws.proofs.HistoryOutcomes.{Within}
 use Rattle.laws.proofs.Histories.{Settled, settled-history, undo-none, redo-none, undo-settled, redo-settled}
-use Rattle.laws.proofs.Sound.{Sound, Stays, undo-stays, redo-stays, times-stays, times-sound, noted-history}
+use Rattle.laws.proofs.Sound.{Sound, Stays, undo-stays, redo-stays, times-stays, noted-history}
 use Rattle.laws.proofs.Accounts.{undo-times, redo-times}
 use Rattle.laws.proofs.UndoKeys.{finished-same}
 use Rattle.laws.proofs.KeysSound.{some-sound}
@@ -67,23 +68,21 @@ module _ (s : Text) (e : Ed) (h : Settled s e) (q : e .command .changes ≡ []) 
   undo-on-way =
       let f : Ed = times j undo-once e in
       let x : Undone e f = undo-times s j e h in
-      let y : Undone f (times (n - j) undo-once f) = undo-times s (n - j) f (times-sound undo-once undo-stays s (undo-settled s) j e h) in
+      let y : Undone f (times (n - j) undo-once f) = undo-times s (n - j) f (times-keeps (Settled s) undo-once (undo-settled s) j e h) in
       rw (times-split j n undo-once e l) (omega (arith, weighed e f x, weighed f _ y, stays-weight e f q (times-stays undo-once undo-stays j e w q)))
 
   redo-on-way : weight (times j redo-once e) ≤ weight e + units-weight (times n redo-once e .undo)
   redo-on-way =
       let f : Ed = times j redo-once e in
       let x : Undone f e = redo-times s j e h in
-      let y : Undone (times (n - j) redo-once f) f = redo-times s (n - j) f (times-sound redo-once redo-stays s (redo-settled s) j e h) in
+      let y : Undone (times (n - j) redo-once f) f = redo-times s (n - j) f (times-keeps (Settled s) redo-once (redo-settled s) j e h) in
       rw (times-split j n redo-once e l) (omega (arith, weighed f e x, weighed _ f y, stays-weight e f q (times-stays redo-once redo-stays j e w q)))
 
 undo-nothing : (j : ℕ) (e : Ed) → e .undo ≡ [] → times j undo-once e ≡ e
-undo-nothing zero e n = refl
-undo-nothing (suc j) e n = ap (times j undo-once) (undo-none e n) ∙ undo-nothing j e n
+undo-nothing j e n = times-keeps (λ f. f ≡ e) undo-once (λ f h. ap undo-once h ∙ undo-none e n) j e refl
 
 redo-nothing : (j : ℕ) (e : Ed) → e .redo ≡ [] → times j redo-once e ≡ e
-redo-nothing zero e n = refl
-redo-nothing (suc j) e n = ap (times j redo-once) (redo-none e n) ∙ redo-nothing j e n
+redo-nothing j e n = times-keeps (λ f. f ≡ e) redo-once (λ f h. ap redo-once h ∙ redo-none e n) j e refl
 
 module _ (s : Text) (e : Ed) (h : Settled s e) (q : e .command .changes ≡ []) (w : Within e) (j n : ℕ) (l : j ≤ n) where
   undo-bound : weight (times j undo-once e) ≤ weight e + weight (scrolled (undo-by e n))

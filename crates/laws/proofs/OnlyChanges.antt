@@ -14,7 +14,8 @@ use Rattle.laws.proofs.HistoryOutcomes.{Outcome, waits, types, refuses, ends, 
 use Rattle.laws.proofs.KeyOutcomes.{typed-keys}
 use Rattle.laws.proofs.Histories.{Settled, settled-history}
 use Rattle.laws.proofs.Sound.{Sound, Stays, undo-stays, redo-stays, times-stays, noted-history, noted-quiet}
-use Rattle.laws.proofs.KeysSound.{repeats-idle, some-sound}
+use Rattle.laws.proofs.CursorKeys.{repeats-outside}
+use Rattle.laws.proofs.KeysSound.{some-sound}
 use Rattle.laws.proofs.UndoAll.{Same, same-back}
 use Rattle.laws.proofs.UndoKeys.{finished-same, noted-same}
 use Rattle.laws.proofs.UndoBytes.{Onward, goes, is-over, only-u, only-control-r}
@@ -53,7 +54,7 @@ module _ (s : Text) (e : Ed) (k : ℕ) (h : Sound s e) where
   key-accounted : Accounted e k (key e k)
   unfolding key
   key-accounted =
-      cond-both (repeats e k) (repeat-last e (pending-count (e .command .pending))) (typed-key e k) (λ f. Accounted e k (scrolled f)) (λ r. repeat-accounted (repeats-idle e k r) _) (λ _. outcome-accounted refl (typed-keys e k (h .within)))
+      cond-both (repeats e k) (repeat-last e (pending-count (e .command .pending))) (typed-key e k) (λ f. Accounted e k (scrolled f)) (λ r. repeat-accounted (repeats-outside e k r) _) (λ _. outcome-accounted refl (typed-keys e k (h .within)))
 
 pub only-changes-change : Only-changes-change
 only-changes-change e k r = let h = some-sound r in key-accounted (h .0) e k (h .1)

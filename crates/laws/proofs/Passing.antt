@@ -18,7 +18,7 @@ use Rattle.spec.specs.HistoryLaws.{Joining, joined, Replaying as Passed-replay,
 use Rattle.laws.proofs.HistoryEdits.{Edits}
 use Rattle.laws.proofs.HistoryOutcomes.{Within}
 use Rattle.laws.proofs.Sound.{Sound}
-use Rattle.laws.proofs.KeysSound.{repeats-idle}
+use Rattle.laws.proofs.CursorKeys.{repeats-outside}
 use Rattle.laws.proofs.Progress.{Progress, progress-none, progress-then, scrolled-progress}
 use Rattle.laws.proofs.Replays.{Replayed, Replaying, Stepped, ended, going, Done, replaying-progress, typed-stepped, stepped-going, replaying-done, replay-begins, replays-done, repeated-done, more, same, parts-more}
 use Rattle.laws.proofs.UndoAll.{times-last}
@@ -138,5 +138,5 @@ between-joins e k f w (joined n j r l) =
 
 pub passed-between : (s : Text) (e : Ed) (k : ℕ) (f : Ed) → Sound s e → Passed e k f → Between e f (key e k)
 passed-between s e k f h (joining j) = between-joins e k f (h .within) j
-passed-between s e k f h (replayed i r l) = rw (repeat-key e k r) (between-replays s e h (repeats-idle e k r) i _ l)
-passed-between s e k f h (replaying i r l p) = rw (repeat-key e k r) (between-keys s e h (repeats-idle e k r) i _ f l p)
+passed-between s e k f h (replayed i r l) = rw (repeat-key e k r) (between-replays s e h (repeats-outside e k r) i _ l)
+passed-between s e k f h (replaying i r l p) = rw (repeat-key e k r) (between-keys s e h (repeats-outside e k r) i _ f l p)

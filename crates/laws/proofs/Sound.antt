@@ -2,7 +2,7 @@
 use mathlib.Core.Path.{_≡_, refl, sym, ap, subst, _∙_}
 use mathlib.Core.Bool.{true, false}
 use mathlib.Core.List.{List, [], _∷_, _++_}
-use Prim.Native.Nat.{ℕ, zero, suc}
+use Prim.Native.Nat.{ℕ}
 use Rattle.std.proofs.shelf.Tests.{true≢false}
 use Rattle.spec.specs.Text.{Text}
 use Rattle.spec.specs.Motions.{times}
@@ -11,6 +11,8 @@ use Rattle.spec.specs.Editor.{Change, UndoUnit, Ed, with-pending}
 use Rattle.spec.specs.History.{recorded, finish, undo-once, redo-once}
 use Rattle.spec.specs.Dispatch.{noted, typed-key}
 use Rattle.laws.proofs.Standing.{clamp-stands}
+use Rattle.laws.proofs.TextMotions.{times-keeps}
+use Rattle.laws.proofs.Edits.{finish-text, finish-cursor}
 use Rattle.laws.proofs.HistoryEdits.{Edits}
 use Rattle.laws.proofs.Phases.{Phase, typing, waiting, phase, Next, goes-on, over, back, forth, next}
 use Rattle.laws.proofs.HistoryOutcomes.{Within, Idle, closed, Outcome, waits, types, refuses, ends, undoes, redoes}
@@ -76,16 +78,8 @@ pub finish-keys : (e : Ed) (cs : List Change) → e .command .changes ≡ cs →
 unfolding finish
 finish-keys e cs n = ap (λ ds. recorded e ds .last-keys) n ∙ recorded-keys e cs
 
-recorded-place : (e : Ed) (cs : List Change) → (recorded e cs .cursor ≡ e .cursor) × (recorded e cs .text ≡ e .text)
-unfolding recorded
-recorded-place e [] = (refl, refl)
-recorded-place e (c ∷ cs) = (refl, refl)
-
 finish-within : (e : Ed) → Within e → Within (finish e)
-unfolding finish
-finish-within e w =
-    let p = recorded-place e (e .command .changes) in
-    rw (p .0, p .1) w
+finish-within e w = rw (finish-cursor e, finish-text e) w
 
 pub closed-sound : (s : Text) (e : Ed) (c : ℕ) → Within e → History s e → Repeatable (finish e .last-keys) → Sound s (closed e c)
 unfolding finish
@@ -125,21 +119,14 @@ redo-stays e w q = at (e .redo) refl
 
 module _ (f : Ed → Ed) (stays : (e : Ed) → Within e → e .command .changes ≡ [] → Stays e (f e)) where
   pub times-stays : (n : ℕ) (e : Ed) → Within e → e .command .changes ≡ [] → Stays e (times n f e)
-  times-stays zero e w q = stays-same e w q
-  times-stays (suc n) e w q =
-      let x : Stays e (f e) = stays e w q in
-      stays-then e (f e) (times n f (f e)) x (times-stays n (f e) (x .within) (x .changes))
-
-  pub times-sound : (s : Text) → ((e : Ed) → Settled s e → Settled s (f e)) → (n : ℕ) (e : Ed) → Settled s e → Settled s (times n f e)
-  times-sound s p zero e h = h
-  times-sound s p (suc n) e h = times-sound s p n (f e) (p e h)
+  times-stays n e w q = times-keeps (Stays e) f (λ g x. stays-then e g (f g) x (stays g (x .within) (x .changes))) n e (stays-same e w q)
 
   pub finished-times-sound : (s : Text) → ((e : Ed) → Settled s e → Settled s (f e)) → (n : ℕ) (e : Ed) → Within e → e .command .changes ≡ [] → History s e → Repeatable (e .last-keys) → Sound s (finish (times n f e))
   unfolding finish
   finished-times-sound s p n e w q h r =
       let g : Ed = times n f e in
       let x : Stays e g = times-stays n e w q in
-      closed-sound s g (finish g .kept-column) (x .within) (history-settled s g (x .changes) (times-sound s p n e (settled-history s e q h))) (subst Repeatable (sym (finish-keys g [] (x .changes) ∙ x .last-keys)) r)
+      closed-sound s g (finish g .kept-column) (x .within) (history-settled s g (x .changes) (times-keeps (Settled s) f p n e (settled-history s e q h))) (subst Repeatable (sym (finish-keys g [] (x .changes) ∙ x .last-keys)) r)
 
 -- One key.
 
