@@ -18,7 +18,7 @@ use Rattle.spec.specs.Dispatch.{noted, scrolled, key}
 use Rattle.spec.specs.Promises.{changes-weight, units-weight, weight}
 use Rattle.spec.specs.HistoryLaws.{unit-changes, Undone, Runs, Moved, undoing, redoing, Between-is-bounded}
 use Rattle.laws.proofs.Weights.{changes-weight-append, unmade-weight, remade-weight}
-use Rattle.laws.proofs.TextMotions.{times-keeps}
+use Rattle.laws.proofs.TextMotions.{times-keeps, times-same}
 use Rattle.laws.proofs.HistoryOutcomes.{Within}
 use Rattle.laws.proofs.Histories.{Settled, settled-history, undo-none, redo-none, undo-settled, redo-settled}
 use Rattle.laws.proofs.Sound.{Sound, Stays, undo-stays, redo-stays, times-stays, noted-history}
@@ -78,22 +78,16 @@ module _ (s : Text) (e : Ed) (h : Settled s e) (q : e .command .changes ≡ []) 
       let y : Undone (times (n - j) redo-once f) f = redo-times s (n - j) f (times-keeps (Settled s) redo-once (redo-settled s) j e h) in
       rw (times-split j n redo-once e l) (omega (arith, weighed f e x, weighed _ f y, stays-weight e f q (times-stays redo-once redo-stays j e w q)))
 
-undo-nothing : (j : ℕ) (e : Ed) → e .undo ≡ [] → times j undo-once e ≡ e
-undo-nothing j e n = times-keeps (λ f. f ≡ e) undo-once (λ f h. ap undo-once h ∙ undo-none e n) j e refl
-
-redo-nothing : (j : ℕ) (e : Ed) → e .redo ≡ [] → times j redo-once e ≡ e
-redo-nothing j e n = times-keeps (λ f. f ≡ e) redo-once (λ f h. ap redo-once h ∙ redo-none e n) j e refl
-
 module _ (s : Text) (e : Ed) (h : Settled s e) (q : e .command .changes ≡ []) (w : Within e) (j n : ℕ) (l : j ≤ n) where
   undo-bound : weight (times j undo-once e) ≤ weight e + weight (scrolled (undo-by e n))
   unfolding undo-by
   undo-bound =
-      cond-both (eqb (length (e .undo)) 0) (cancel e) (finish (times n undo-once e)) (λ g. weight (times j undo-once e) ≤ weight e + weight (scrolled g)) (λ z. rw (undo-nothing j e (nil-from-length (e .undo) (eqb-true _ 0 z))) (omega arith)) (λ _. omega (arith, undo-on-way s e h q w j n l, ap units-weight (finished-same (times n undo-once e) (times-stays undo-once undo-stays n e w q .changes) .redo)))
+      cond-both (eqb (length (e .undo)) 0) (cancel e) (finish (times n undo-once e)) (λ g. weight (times j undo-once e) ≤ weight e + weight (scrolled g)) (λ z. rw (times-same undo-once e (undo-none e (nil-from-length (e .undo) (eqb-true _ 0 z))) j) (omega arith)) (λ _. omega (arith, undo-on-way s e h q w j n l, ap units-weight (finished-same (times n undo-once e) (times-stays undo-once undo-stays n e w q .changes) .redo)))
 
   redo-bound : weight (times j redo-once e) ≤ weight e + weight (scrolled (redo-by e n))
   unfolding redo-by
   redo-bound =
-      cond-both (eqb (length (e .redo)) 0) (cancel e) (finish (times n redo-once e)) (λ g. weight (times j redo-once e) ≤ weight e + weight (scrolled g)) (λ z. rw (redo-nothing j e (nil-from-length (e .redo) (eqb-true _ 0 z))) (omega arith)) (λ _. omega (arith, redo-on-way s e h q w j n l, ap units-weight (finished-same (times n redo-once e) (times-stays redo-once redo-stays n e w q .changes) .undo)))
+      cond-both (eqb (length (e .redo)) 0) (cancel e) (finish (times n redo-once e)) (λ g. weight (times j redo-once e) ≤ weight e + weight (scrolled g)) (λ z. rw (times-same redo-once e (redo-none e (nil-from-length (e .redo) (eqb-true _ 0 z))) j) (omega arith)) (λ _. omega (arith, redo-on-way s e h q w j n l, ap units-weight (finished-same (times n redo-once e) (times-stays redo-once redo-stays n e w q .changes) .undo)))
 
 -- As keys.
 

@@ -1,5 +1,5 @@
 -- The editors on the way of a repeat and of a key that joins lines, and what they weigh.
-use mathlib.Core.Path.{_≡_, refl, sym, ap, _∙_}
+use mathlib.Core.Path.{_≡_, sym, ap, _∙_}
 use mathlib.Core.Bool.{false}
 use Prim.Native.Nat.{ℕ, zero, suc, _+_, _-_, _≤_, max}
 use native.Mathlib.Nat.{zero-add, suc-add}
@@ -16,6 +16,7 @@ use Rattle.spec.specs.History.{finish, finish-in-column, cancel}
 use Rattle.spec.specs.Commands.{join-once, join-by, run-action}
 use Rattle.spec.specs.Dispatch.{command-key, noted, typed-key, key, scrolled}
 use Rattle.spec.specs.HistoryLaws.{Runs, Between}
+use Rattle.laws.proofs.TextMotions.{times-same}
 use Rattle.laws.proofs.HistoryEdits.{Edits}
 use Rattle.laws.proofs.HistoryOutcomes.{Within}
 use Rattle.laws.proofs.Actions.{joins-edits, joins-within}
@@ -53,10 +54,6 @@ join-nothing : (e : Ed) → ltb (line-end (e .text) (e .cursor)) (length (e .tex
 unfolding join-once
 join-nothing e n = cond-false _ _ e n
 
-joins-nothing : (j : ℕ) (e : Ed) → join-once e ≡ e → times j join-once e ≡ e
-joins-nothing zero e n = refl
-joins-nothing (suc j) e n = ap (times j join-once) n ∙ joins-nothing j e n
-
 finish-progress : (e : Ed) → Progress e (finish e)
 unfolding finish
 finish-progress e = closed-progress e (finish e .kept-column)
@@ -74,7 +71,7 @@ joining-progress e j n w h =
 joined-progress : (e : Ed) (j n : ℕ) → Within e → j ≤ max 1 (n - 1) → Progress (times j join-once e) (join-by e n)
 unfolding join-by
 joined-progress e j n w h =
-    cond-both (ltb (line-end (e .text) (e .cursor)) (length (e .text))) _ _ (Progress (times j join-once e)) (λ _. joining-progress e j (max 1 (n - 1)) w h) (λ q. rw (joins-nothing j e (join-nothing e q)) (cancel-progress e))
+    cond-both (ltb (line-end (e .text) (e .cursor)) (length (e .text))) _ _ (Progress (times j join-once e)) (λ _. joining-progress e j (max 1 (n - 1)) w h) (λ q. rw (times-same join-once e (join-nothing e q) j) (cancel-progress e))
 
 -- An editor on the way, between two others.
 

@@ -25,6 +25,10 @@ pub times-keeps : {A : Type 0} (P : A → Type 0) (f : A → A) → ((a : A) →
 times-keeps P f keeps zero a h = h
 times-keeps P f keeps (suc n) a h = times-keeps P f keeps n (f a) (keeps a h)
 
+-- and leaves what it leaves once
+pub times-same : {A : Type 0} (f : A → A) (a : A) → f a ≡ a → (n : ℕ) → times n f a ≡ a
+times-same f a e n = times-keeps (λ b. b ≡ a) f (λ b h. ap f h ∙ e) n a refl
+
 -- what may be there has a property
 abbrev pub Each : {A : Type 0} → (A → Type 0) → Option A → Type 0
 Each P none = Unit {0}
