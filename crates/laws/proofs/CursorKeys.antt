@@ -1,12 +1,11 @@
 -- Every key leaves the cursor where it may stand, and so the cursor always stands.
-use mathlib.Core.Path.{_≡_}
-use mathlib.Core.Bool.{true, false, _&&_, not}
+use mathlib.Core.Bool.{_&&_, not}
 use mathlib.Core.List.{List, [], _∷_}
 use Prim.Native.Nat.{ℕ}
 use native.Mathlib.Omega.{arith}
 use lib.ListN.{length}
 use lib.Dec.{eqb}
-use Rattle.std.proofs.shelf.Tests.{cond-both, and-parts, not-true}
+use Rattle.std.proofs.shelf.Tests.{cond-both}
 use Rattle.spec.specs.Bytes.{ascii, escape}
 use Rattle.spec.specs.Text.{Text, line-start, skip-back}
 use Rattle.spec.specs.Motions.{to-line-start, to-line-or-first, find, till, or-one}
@@ -17,6 +16,7 @@ use Rattle.spec.specs.Dispatch.{argument-key, digit-key, operator-key, awaiter-
 use Rattle.spec.specs.Promises.{first, next, Stands, Always-stands}
 use Rattle.laws.proofs.Standing.{line-start-stands}
 use Rattle.laws.proofs.TextMotions.{or-one-positive, times-keeps}
+use Rattle.laws.proofs.Dispatching.{repeats-outside}
 use Rattle.laws.proofs.Cursors.{Rests, rests-stands, stands-rests, cancel-stands, run-motion-stands, operate-lines-stands, write-over-stands, run-action-stands, insert-key-stands}
 
 argument-key-stands : (e : Ed) (a : Argument) (p : Prefix) (k : ℕ) → Rests e → Stands (argument-key e a p k)
@@ -81,11 +81,6 @@ replay-stands e (k ∷ ks) h =
 repeat-last-stands : (e : Ed) (n : ℕ) → Rests e → Stands (repeat-last e n)
 unfolding repeat-last
 repeat-last-stands e n h = times-keeps Stands _ (λ f. replay-stands f (e .last-keys)) (or-one n) (cancel e) (cancel-stands e h)
-
--- a key is a repeat only outside of inserting
-pub repeats-outside : (e : Ed) (k : ℕ) → repeats e k ≡ true → e .inserting ≡ false
-unfolding repeats
-repeats-outside e k q = not-true (e .inserting) (and-parts (not (e .inserting)) _ q .0)
 
 pub scrolled-stands : (e : Ed) → Stands e → Stands (scrolled e)
 unfolding scrolled

@@ -37,14 +37,6 @@ pub edit-inserting : (e : Ed) (a b : ℕ) (new : Text) (to : ℕ) → edit e a b
 unfolding edit
 edit-inserting e a b new to = cond-both _ _ _ (λ (f : Ed). f .inserting ≡ e .inserting) (λ _. refl) (λ _. refl)
 
-pub edit-keys : (e : Ed) (a b : ℕ) (new : Text) (to : ℕ) → edit e a b new to .command .keys ≡ e .command .keys
-unfolding edit
-edit-keys e a b new to = cond-both _ _ _ (λ (f : Ed). f .command .keys ≡ e .command .keys) (λ _. refl) (λ _. refl)
-
-pub edit-last-keys : (e : Ed) (a b : ℕ) (new : Text) (to : ℕ) → edit e a b new to .last-keys ≡ e .last-keys
-unfolding edit
-edit-last-keys e a b new to = cond-both _ _ _ (λ (f : Ed). f .last-keys ≡ e .last-keys) (λ _. refl) (λ _. refl)
-
 -- as far as the new bytes go the text goes
 pub edit-length : (e : Ed) (a b : ℕ) (new : Text) (to i : ℕ) → a ≤ length (e .text) → i ≤ a + length new → i ≤ length (edit e a b new to .text)
 unfolding edit
@@ -84,7 +76,3 @@ finish-text e = recorded-text e (e .command .changes)
 pub finish-cursor : (e : Ed) → finish e .cursor ≡ e .cursor
 unfolding finish
 finish-cursor e = recorded-cursor e (e .command .changes)
-
-pub finish-inserting : (e : Ed) → finish e .inserting ≡ false
-unfolding finish
-finish-inserting e = refl

@@ -14,7 +14,7 @@ use Rattle.spec.specs.History.{finish-in-column, cancel}
 use Rattle.spec.specs.Dispatch.{typed-key, replay, repeat-last, repeats, pending-count, scrolled, key}
 use Rattle.spec.specs.Promises.{Reachable, Reachable-from}
 use Rattle.laws.proofs.TextMotions.{times-keeps}
-use Rattle.laws.proofs.CursorKeys.{repeats-outside}
+use Rattle.laws.proofs.Dispatching.{repeats-outside}
 use Rattle.laws.proofs.Sound.{Sound, start, finish-keys, closed-sound, typed-sound}
 
 pub initial-sound : (t : Text) (r c : ℕ) → Sound t (initial t r c)

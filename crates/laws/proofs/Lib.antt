@@ -5,12 +5,10 @@ pub mod Standing
 pub mod TextMotions
 pub mod Targets
 pub mod Edits
+pub mod Dispatching
 pub mod Cursors
 pub mod CursorKeys
-pub mod Outcomes
-pub mod Repeats
 pub mod Cannot
-pub mod Harmless
 pub mod Sight
 pub mod Witnesses
 pub mod Replacements
@@ -34,4 +32,5 @@ pub mod OnTheWay
 pub mod Passing
 pub mod MovedWeights
 pub mod HistoryWitnesses
+pub mod Harmless
 pub mod ReplaySteps

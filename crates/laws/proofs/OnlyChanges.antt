@@ -14,7 +14,7 @@ use Rattle.laws.proofs.HistoryOutcomes.{Outcome, waits, types, refuses, ends, 
 use Rattle.laws.proofs.KeyOutcomes.{typed-keys}
 use Rattle.laws.proofs.Histories.{Settled, settled-history}
 use Rattle.laws.proofs.Sound.{Sound, Stays, undo-stays, redo-stays, times-stays, noted-history, noted-quiet}
-use Rattle.laws.proofs.CursorKeys.{repeats-outside}
+use Rattle.laws.proofs.Dispatching.{repeats-outside}
 use Rattle.laws.proofs.KeysSound.{some-sound}
 use Rattle.laws.proofs.UndoAll.{Same, same-back}
 use Rattle.laws.proofs.UndoKeys.{finished-same, noted-same}

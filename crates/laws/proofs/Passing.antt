@@ -6,7 +6,7 @@ use Prim.Native.Nat.{ℕ, suc, _-_, _≤_, _<_}
 use native.Mathlib.Omega.{arith}
 use lib.ListN.{length, length-append}
 use lib.Dec.{eqb}
-use Rattle.std.proofs.shelf.Tests.{cond-both, cond-false, cond-true, eqb-false, ne-eqb}
+use Rattle.std.proofs.shelf.Tests.{cond-both, cond-false, eqb-false, ne-eqb}
 use Rattle.spec.specs.Text.{Text}
 use Rattle.spec.specs.Motions.{times, or-one}
 use Rattle.spec.specs.Keys.{join-lines}
@@ -18,7 +18,7 @@ use Rattle.spec.specs.HistoryLaws.{Joining, joined, Replaying as Passed-replay,
 use Rattle.laws.proofs.HistoryEdits.{Edits}
 use Rattle.laws.proofs.HistoryOutcomes.{Within}
 use Rattle.laws.proofs.Sound.{Sound}
-use Rattle.laws.proofs.CursorKeys.{repeats-outside}
+use Rattle.laws.proofs.Dispatching.{repeats-outside, key-repeated}
 use Rattle.laws.proofs.Progress.{Progress, progress-none, progress-then, scrolled-progress}
 use Rattle.laws.proofs.Replays.{Replayed, Replaying, Stepped, ended, going, Done, replaying-progress, typed-stepped, stepped-going, replaying-done, replay-begins, replays-done, repeated-done, more, same, parts-more}
 use Rattle.laws.proofs.UndoAll.{times-last}
@@ -122,7 +122,7 @@ module _ (s : Text) (e : Ed) (h : Sound s e) (idle : e .inserting ≡ false) whe
 
 repeat-key : (e : Ed) (k : ℕ) → repeats e k ≡ true → key e k ≡ scrolled (repeated e (or-one (pending-count (e .command .pending))))
 unfolding key repeat-last
-repeat-key e k r = ap scrolled (cond-true (repeats e k) _ _ r)
+repeat-key e k r = key-repeated e k r
 
 -- On the way of lines joined.
 

@@ -15,6 +15,7 @@ use Rattle.spec.specs.History.{recorded, finish, cancel, undo-once, redo-once}
 use Rattle.spec.specs.Commands.{undo-by, redo-by, run-action}
 use Rattle.spec.specs.Dispatch.{argument-key, command-key, normal-key, noted, typed-key, repeats, scrolled, key}
 use Rattle.spec.specs.HistoryLaws.{Restored, Ready, Undo-key-redo-key}
+use Rattle.laws.proofs.Dispatching.{key-typed, typed-outside}
 use Rattle.laws.proofs.HistoryOutcomes.{Within}
 use Rattle.laws.proofs.Histories.{undo-some, redo-some}
 use Rattle.laws.proofs.Sound.{Sound, Stays, undo-stays, redo-stays}
@@ -29,16 +30,14 @@ module _ (e : Ed) (k n : ℕ) (i : e .inserting ≡ false) (p : e .command .pend
       ap (λ (q : Pending). elim q [ ready r ↦ command-key (noted e k) r (key-of k) | awaiting a r ↦ cond (eqb k escape) (cancel (noted e k)) (argument-key (noted e k) a r k) ]) p
 
   pub typed-first : typed-key e k ≡ command-key (noted e k) (counting n) (key-of k)
-  unfolding typed-key
-  typed-first = cond-false (e .inserting) _ _ i ∙ normal-first
+  typed-first = typed-outside e k i ∙ normal-first
 
   no-repeat : eqb k (ascii ".") ≡ false → repeats e k ≡ false
   unfolding repeats
   no-repeat q = rw (i, q) refl
 
   pub key-first : eqb k (ascii ".") ≡ false → key e k ≡ scrolled (typed-key e k)
-  unfolding key
-  key-first q = ap scrolled (cond-false (repeats e k) _ (typed-key e k) (no-repeat q))
+  key-first q = key-typed e k (no-repeat q)
 
 some-left : (us : List UndoUnit) → 0 < length us → eqb (length us) 0 ≡ false
 some-left us h = ne-eqb (length us) 0 (λ n. omega arith)
