@@ -7,7 +7,6 @@ pub mod Targets
 pub mod Edits
 pub mod Dispatching
 pub mod Cursors
-pub mod CursorKeys
 pub mod Cannot
 pub mod Sight
 pub mod Witnesses
@@ -18,6 +17,7 @@ pub mod Phases
 pub mod HistoryOutcomes
 pub mod Actions
 pub mod KeyOutcomes
+pub mod CursorKeys
 pub mod Histories
 pub mod Sound
 pub mod KeysSound

@@ -187,7 +187,7 @@ module _ (s : Text) (e : Ed) (k : ℕ) (sound : Sound s e) where
   outcome-sound n (waits q w) = waits-sound q n w
   outcome-sound n (types x w i) = types-sound _ n x w i
   outcome-sound n (refuses c w) = refuses-sound c w
-  outcome-sound n (ends c x w) = ends-sound _ c n x w
+  outcome-sound n (ends c x w) = ends-sound _ c n x (w .within)
   outcome-sound n (undoes m w) =
       finished-times-sound undo-once undo-stays s (undo-settled s) m (noted e k) (w .within) (noted-quiet (w .idle)) noted-history noted-repeatable
   outcome-sound n (redoes m w) =
