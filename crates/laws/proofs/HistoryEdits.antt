@@ -1,6 +1,6 @@
 -- What a command does to the editor before it ends: changes are made and recorded; undo and redo stay.
 use mathlib.Core.Path.{_≡_, refl, sym, ap, _∙_}
-use mathlib.Core.Bool.{_&&_}
+use mathlib.Core.Bool.{Bool, true, _&&_}
 use mathlib.Core.List.{List, [], _∷_, _++_, append-assoc}
 use Prim.Native.Nat.{ℕ, _+_, _≤_, max}
 use native.Mathlib.Omega.{arith}
@@ -9,7 +9,8 @@ use lib.Dec.{eqb}
 use Rattle.std.proofs.shelf.Tests.{cond-both}
 use Rattle.spec.specs.Text.{Text, part, replaced}
 use Rattle.spec.specs.Motions.{Region}
-use Rattle.spec.specs.Editor.{Change, Ed, with-text, with-cursor, with-changes}
+use Rattle.spec.specs.Keys.{Pending, no-prefix}
+use Rattle.spec.specs.Editor.{Change, Ed, with-text, with-cursor, with-inserting, with-pending, with-changes}
 use Rattle.spec.specs.History.{edit}
 use Rattle.spec.specs.Commands.{yanked, start-insert}
 use Rattle.spec.specs.Promises.{changes-weight, units-weight}
@@ -54,8 +55,9 @@ edits-then e f g x y =
 
 -- The steps.
 
-pub moved-edits : (e f : Ed) (a : ℕ) → Edits e f → Edits e (with-cursor f a)
-moved-edits e f a x =
+-- where the cursor is, whether bytes are inserted and what is pending is no part of that
+placed-edits : (e f : Ed) (a : ℕ) (b : Bool) (p : Pending) → Edits e f → Edits e (with-pending (with-inserting (with-cursor f a) b) p)
+placed-edits e f a b p x =
     record {
       recent = x .recent;
       applied = x .applied;
@@ -68,20 +70,12 @@ moved-edits e f a x =
       register = x .register;
     }
 
+pub moved-edits : (e f : Ed) (a : ℕ) → Edits e f → Edits e (with-cursor f a)
+moved-edits e f a x = placed-edits e f a (f .inserting) (f .command .pending) x
+
 pub start-insert-edits : (e f : Ed) → Edits e f → Edits e (start-insert f)
 unfolding start-insert
-start-insert-edits e f x =
-    record {
-      recent = x .recent;
-      applied = x .applied;
-      changes = x .changes;
-      undo = x .undo;
-      redo = x .redo;
-      keys = x .keys;
-      began = x .began;
-      last-keys = x .last-keys;
-      register = x .register;
-    }
+start-insert-edits e f x = placed-edits e f (f .cursor) true no-prefix x
 
 pub yanked-edits : (e : Ed) (r : Region) → Edits e (yanked e r)
 unfolding yanked

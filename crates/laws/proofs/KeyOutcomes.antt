@@ -60,6 +60,10 @@ normal-keys e k w = by (e .command .pending)
     by (ready p) = command-keys e p (key-of k) w
     by (awaiting a p) = by-test e (eqb k escape) over (behind-argument a p) _ _ (cancels e over w) (argument-keys e a p k w)
 
+pub noted-within : (e : Ed) (k : ℕ) → Within e → Within (noted e k)
+unfolding noted
+noted-within e k w = w
+
 pub typed-keys : (e : Ed) (k : ℕ) → Within e → Outcome (noted e k) (next (phase e) k) (typed-key e k)
 unfolding typed-key noted
 typed-keys e k w = at (e .inserting) refl

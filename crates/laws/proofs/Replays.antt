@@ -20,7 +20,7 @@ use Rattle.laws.proofs.KeyOutcomes.{typed-keys}
 use Rattle.laws.proofs.UndoBytes.{Onward, goes, is-over}
 use Rattle.laws.proofs.Sound.{Sound, start, Leads, If-goes-on, Complete, Repeatable, kept-keys, finish-keys, noted-keys, noted-quiet, typed-sound}
 use Rattle.laws.proofs.KeysSound.{cancel-sound}
-use Rattle.laws.proofs.Progress.{Progress, progress-none, progress-then, closed-progress, typed-progress}
+use Rattle.laws.proofs.Progress.{Progress, progress-none, progress-then, cancel-progress, typed-progress}
 
 -- at a command's end
 pub record Replayed (s : Text) (ks : List ℕ) (e : Ed) : Type 0 where
@@ -159,13 +159,9 @@ module _ (s : Text) (e : Ed) (i : e .inserting ≡ false) (h : Sound s e) where
   cancelled : Replayed s (e .last-keys) (cancel e)
   cancelled = record { sound = cancel-sound s e i h; keys = cancelled-keys .0; last-keys = cancelled-keys .1 }
 
-  cancel-progress : Progress e (cancel e)
-  unfolding cancel finish-in-column
-  cancel-progress = closed-progress e (e .kept-column)
-
   -- so far
   pub repeated-done : (n : ℕ) → Done s (e .last-keys) e (times n (λ f. replay f (e .last-keys)) (cancel e))
-  repeated-done n = done-then s (e .last-keys) e (cancel e) _ cancel-progress (replays-done s (e .last-keys) n (cancel e) cancelled)
+  repeated-done n = done-then s (e .last-keys) e (cancel e) _ (cancel-progress e) (replays-done s (e .last-keys) n (cancel e) cancelled)
 
   pub repeat-done : (n : ℕ) → Done s (e .last-keys) e (repeat-last e n)
   unfolding repeat-last

@@ -16,7 +16,7 @@ use Rattle.spec.specs.Commands.{undo-by, redo-by, run-action}
 use Rattle.spec.specs.Dispatch.{argument-key, command-key, normal-key, noted, typed-key, repeats, scrolled, key}
 use Rattle.spec.specs.HistoryLaws.{Restored, Ready, Undo-key-redo-key}
 use Rattle.laws.proofs.Dispatching.{key-typed, typed-outside}
-use Rattle.laws.proofs.HistoryOutcomes.{Within}
+use Rattle.laws.proofs.KeyOutcomes.{noted-within}
 use Rattle.laws.proofs.Histories.{undo-some, redo-some}
 use Rattle.laws.proofs.Sound.{Sound, Stays, undo-stays, redo-stays}
 use Rattle.laws.proofs.KeysSound.{key-sound, some-sound}
@@ -63,10 +63,6 @@ finished-same e n =
 pub noted-same : (e : Ed) (k : ℕ) → Same (noted e k) e
 unfolding noted
 noted-same e k = record { text = refl; undo = refl; redo = refl }
-
-noted-within : (e : Ed) (k : ℕ) → Within e → Within (noted e k)
-unfolding noted
-noted-within e k w = w
 
 noted-quiet : (e : Ed) (k : ℕ) → e .command .changes ≡ [] → noted e k .command .changes ≡ []
 unfolding noted
