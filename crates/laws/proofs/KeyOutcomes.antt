@@ -64,6 +64,10 @@ pub noted-within : (e : Ed) (k : ℕ) → Within e → Within (noted e k)
 unfolding noted
 noted-within e k w = w
 
+pub noted-idle : (e : Ed) (k : ℕ) → e .inserting ≡ false → noted e k .inserting ≡ false
+unfolding noted
+noted-idle e k i = i
+
 pub typed-keys : (e : Ed) (k : ℕ) → Within e → Outcome (noted e k) (next (phase e) k) (typed-key e k)
 unfolding typed-key noted
 typed-keys e k w = at (e .inserting) refl

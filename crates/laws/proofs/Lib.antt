@@ -29,8 +29,8 @@ pub mod Progress
 pub mod Replays
 pub mod OnlyChanges
 pub mod OnTheWay
+pub mod ReplaySteps
 pub mod Passing
 pub mod MovedWeights
 pub mod HistoryWitnesses
 pub mod Harmless
-pub mod ReplaySteps

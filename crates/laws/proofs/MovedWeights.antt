@@ -20,9 +20,9 @@ use Rattle.spec.specs.HistoryLaws.{unit-changes, Undone, Runs, Moved, undoing, 
 use Rattle.laws.proofs.Weights.{changes-weight-append, unmade-weight, remade-weight}
 use Rattle.laws.proofs.TextMotions.{times-keeps, times-same}
 use Rattle.laws.proofs.HistoryOutcomes.{Within}
-use Rattle.laws.proofs.KeyOutcomes.{noted-within}
-use Rattle.laws.proofs.Histories.{Settled, settled-history, undo-none, redo-none, undo-settled, redo-settled}
-use Rattle.laws.proofs.Sound.{Sound, Stays, undo-stays, redo-stays, times-stays, noted-history, noted-quiet}
+use Rattle.laws.proofs.KeyOutcomes.{noted-within, noted-idle}
+use Rattle.laws.proofs.Histories.{Settled, undo-none, redo-none, undo-settled, redo-settled}
+use Rattle.laws.proofs.Sound.{Sound, Stays, undo-stays, redo-stays, times-stays, noted-quiet, noted-settled}
 use Rattle.laws.proofs.Accounts.{undo-times, redo-times}
 use Rattle.laws.proofs.UndoKeys.{finished-same}
 use Rattle.laws.proofs.KeysSound.{some-sound}
@@ -97,25 +97,18 @@ unfolding noted
 noted-weight e k = omega (arith, length-append (e .command .keys) (k ∷ []))
 
 module _ (s : Text) (e : Ed) (k n j : ℕ) (h : Sound s e) (l : j ≤ or-one n) where
-  noted-still : e .inserting ≡ false → noted e k .command .changes ≡ []
-  unfolding noted
-  noted-still i = noted-quiet s e k h i
-
-  noted-settled : e .inserting ≡ false → Settled s (noted e k)
-  noted-settled i = settled-history s (noted e k) (noted-still i) (noted-history s e k h)
-
   undoing-bound : Runs e k n go-back → weight (times j undo-once (noted e k)) ≤ suc (weight e + weight (key e k))
   unfolding run-action
   undoing-bound r =
       let i : e .inserting ≡ false = r .not-inserting in
-      let b : weight (times j undo-once (noted e k)) ≤ weight (noted e k) + weight (scrolled (undo-by (noted e k) (or-one n))) = undo-bound s (noted e k) (noted-settled i) (noted-still i) (noted-within e k (h .within)) j (or-one n) l in
+      let b : weight (times j undo-once (noted e k)) ≤ weight (noted e k) + weight (scrolled (undo-by (noted e k) (or-one n))) = undo-bound s (noted e k) (noted-settled s e k h (noted-idle e k i)) (noted-quiet s e k h (noted-idle e k i)) (noted-within e k (h .within)) j (or-one n) l in
       rw (runs-key e k n go-back r, runs-typed e k n go-back r) (omega (arith, b, noted-weight e k))
 
   redoing-bound : Runs e k n go-forth → weight (times j redo-once (noted e k)) ≤ suc (weight e + weight (key e k))
   unfolding run-action
   redoing-bound r =
       let i : e .inserting ≡ false = r .not-inserting in
-      let b : weight (times j redo-once (noted e k)) ≤ weight (noted e k) + weight (scrolled (redo-by (noted e k) (or-one n))) = redo-bound s (noted e k) (noted-settled i) (noted-still i) (noted-within e k (h .within)) j (or-one n) l in
+      let b : weight (times j redo-once (noted e k)) ≤ weight (noted e k) + weight (scrolled (redo-by (noted e k) (or-one n))) = redo-bound s (noted e k) (noted-settled s e k h (noted-idle e k i)) (noted-quiet s e k h (noted-idle e k i)) (noted-within e k (h .within)) j (or-one n) l in
       rw (runs-key e k n go-forth r, runs-typed e k n go-forth r) (omega (arith, b, noted-weight e k))
 
 pub moved-bound : (s : Text) (e : Ed) (k : ℕ) (f : Ed) → Sound s e → Moved e k f → weight f ≤ suc (weight e + weight (key e k))

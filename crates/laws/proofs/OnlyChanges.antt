@@ -12,8 +12,7 @@ use Rattle.spec.specs.HistoryLaws.{Accounted, made, undone, redone, Only-change
 use Rattle.laws.proofs.Phases.{phase, Next, next}
 use Rattle.laws.proofs.HistoryOutcomes.{Outcome, waits, types, refuses, ends, undoes, redoes}
 use Rattle.laws.proofs.KeyOutcomes.{typed-keys}
-use Rattle.laws.proofs.Histories.{Settled, settled-history}
-use Rattle.laws.proofs.Sound.{Sound, Stays, undo-stays, redo-stays, times-stays, noted-history, noted-quiet}
+use Rattle.laws.proofs.Sound.{Sound, Stays, undo-stays, redo-stays, times-stays, noted-quiet, noted-settled}
 use Rattle.laws.proofs.Dispatching.{repeats-outside}
 use Rattle.laws.proofs.KeysSound.{some-sound}
 use Rattle.laws.proofs.UndoAll.{Same, same-back}
@@ -24,9 +23,6 @@ use Rattle.laws.proofs.Progress.{outcome-progress, noted-progress, scrolled-pr
 use Rattle.laws.proofs.Replays.{repeat-done}
 
 module _ (s : Text) (e : Ed) (k : ℕ) (h : Sound s e) where
-  noted-settled : noted e k .inserting ≡ false → Settled s (noted e k)
-  noted-settled i = settled-history s (noted e k) (noted-quiet s e k h i) (noted-history s e k h)
-
   onward-accounted : {x : Next} {f : Ed} → Onward x → Outcome (noted e k) x f → Accounted e k (scrolled f)
   onward-accounted o x =
       made (made-then e (noted e k) _ (noted-progress e k .made) (made-then (noted e k) _ _ (outcome-progress (noted e k) o x .made) (scrolled-progress _ .made)))
@@ -42,11 +38,11 @@ module _ (s : Text) (e : Ed) (k : ℕ) (h : Sound s e) where
   outcome-accounted n (undoes m w) =
       let f : Ed = times m undo-once (noted e k) in
       let x : Stays (noted e k) f = times-stays undo-once undo-stays m (noted e k) (w .within) (noted-quiet s e k h (w .idle)) in
-      undone (only-u (phase e) k n) (undone-same (noted e k) f e _ (noted-same e k) (moved-same f x) (undo-times s m (noted e k) (noted-settled (w .idle))))
+      undone (only-u (phase e) k n) (undone-same (noted e k) f e _ (noted-same e k) (moved-same f x) (undo-times s m (noted e k) (noted-settled s e k h (w .idle))))
   outcome-accounted n (redoes m w) =
       let f : Ed = times m redo-once (noted e k) in
       let x : Stays (noted e k) f = times-stays redo-once redo-stays m (noted e k) (w .within) (noted-quiet s e k h (w .idle)) in
-      redone (only-control-r (phase e) k n) (undone-same f (noted e k) _ e (moved-same f x) (noted-same e k) (redo-times s m (noted e k) (noted-settled (w .idle))))
+      redone (only-control-r (phase e) k n) (undone-same f (noted e k) _ e (moved-same f x) (noted-same e k) (redo-times s m (noted e k) (noted-settled s e k h (w .idle))))
 
   repeat-accounted : e .inserting ≡ false → (n : ℕ) → Accounted e k (scrolled (repeat-last e n))
   repeat-accounted i n = made (made-then e (repeat-last e n) _ (repeat-done s e i h n .progress .made) (scrolled-progress _ .made))

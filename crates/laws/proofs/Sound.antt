@@ -139,6 +139,9 @@ module _ (s : Text) (e : Ed) (k : ℕ) (sound : Sound s e) where
   unfolding noted
   noted-quiet i = sound .quiet i
 
+  pub noted-settled : noted e k .inserting ≡ false → Settled s (noted e k)
+  noted-settled i = settled-history s (noted e k) (noted-quiet i) noted-history
+
   noted-repeatable : Repeatable (noted e k .last-keys)
   unfolding noted
   noted-repeatable = sound .last-keys
