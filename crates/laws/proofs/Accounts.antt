@@ -9,6 +9,7 @@ use Rattle.spec.specs.Editor.{Change, UndoUnit, Ed}
 use Rattle.spec.specs.History.{recorded, finish, unmade, remade, undo-once, redo-once}
 use Rattle.spec.specs.HistoryLaws.{unit-changes, undoable, Made, Undone, made}
 use Rattle.laws.proofs.Replacements.{unmade-applies, remade-applies}
+use Rattle.laws.proofs.Edits.{finish-text}
 use Rattle.laws.proofs.HistoryEdits.{Edits}
 use Rattle.laws.proofs.HistoryOutcomes.{closed}
 use Rattle.laws.proofs.Histories.{Settled, with-undone, with-redone, undo-none, undo-some, redo-none, redo-some, undo-settled, redo-settled}
@@ -59,11 +60,6 @@ unfolding recorded
 recorded-undoable e [] = refl
 recorded-undoable e (c ∷ cs) = refl
 
-recorded-text : (e : Ed) (cs : List Change) → recorded e cs .text ≡ e .text
-unfolding recorded
-recorded-text e [] = refl
-recorded-text e (c ∷ cs) = refl
-
 recorded-redo : (e : Ed) (cs : List Change) → (recorded e cs .redo ≡ e .redo) ⊎ (recorded e cs .redo ≡ [])
 unfolding recorded
 recorded-redo e [] = inl refl
@@ -75,8 +71,8 @@ closed-made e c =
     record {
       recent = [];
       known = recorded-undoable e (e .command .changes);
-      made = recorded-text e (e .command .changes);
-      back = sym (recorded-text e (e .command .changes));
+      made = finish-text e;
+      back = sym (finish-text e);
       redo = recorded-redo e (e .command .changes);
     }
 

@@ -1,27 +1,32 @@
 -- A pending command, or one that can't be done, leaves all but itself as it is.
-use mathlib.Core.Path.{_≡_, refl, sym, ap, subst, _∙_}
-use mathlib.Core.Bool.{Bool, true, false, _&&_, not}
-use mathlib.Core.List.{[]}
-use mathlib.Core.Logic.{inl, inr, ⊎-elim}
-use mathlib.Core.Option.{Option, some, none}
+use mathlib.Core.Path.{_≡_, refl, sym, ap, subst, subst₂, _∙_}
+use mathlib.Core.Bool.{Bool, true, false, _&&_, not, cond}
+use mathlib.Core.List.{List, []}
+use mathlib.Core.Logic.{⊎-elim}
+use mathlib.Core.Option.{some, none}
 use Prim.Native.Nat.{ℕ, _+_, _-_, _≤_, _<_}
 use native.Mathlib.Omega.{arith}
 use lib.Dec.{eqb}
 use Rattle.std.proofs.shelf.Lists.{nil-from-length}
-use Rattle.std.proofs.shelf.Tests.{true≢false, cases-bool, and-parts, eqb-true, cond-true, cond-false}
+use Rattle.std.proofs.shelf.Tests.{true≢false, cases-bool, and-parts, eqb-true}
 use Rattle.std.proofs.shelf.Ways.{tells}
 use Rattle.spec.specs.Bytes.{ascii, escape}
 use Rattle.spec.specs.Text.{column, line-of}
-use Rattle.spec.specs.Motions.{or-one}
-use Rattle.spec.specs.Keys.{key-of, counting, operating, Pending, ready, awaiting}
-use Rattle.spec.specs.Editor.{Ed, OpenCommand, with-command, with-pending, no-command-yet}
-use Rattle.spec.specs.History.{cancel}
-use Rattle.spec.specs.Dispatch.{normal-key, noted, typed-key, replay, repeat-last, repeats, pending-count, follow, scrolled, key}
+use Rattle.spec.specs.Motions.{to-line-start, or-one}
+use Rattle.spec.specs.Keys.{byte-to-find, byte-to-stop-before, byte-to-write, second-g, Key, digit, motion, operator, awaiter, action, repeat, no-command, key-of, Prefix, counting, operating, Pending, ready, awaiting, longer-count, has-count}
+use Rattle.spec.specs.Editor.{Ed, Change, OpenCommand, with-inserting, with-changes, with-command, with-pending, no-command-yet}
+use Rattle.spec.specs.History.{recorded, finish, finish-in-column, cancel}
+use Rattle.spec.specs.Commands.{run-motion}
+use Rattle.spec.specs.Dispatch.{digit-key, operator-key, awaiter-key, command-key, normal-key, noted, typed-key, replay, repeat-last, repeats, pending-count, follow, scrolled, key}
 use Rattle.spec.specs.Promises.{Reachable, Sees}
-use Rattle.spec.specs.Laws.{goes-on-with, cannot-command, can-not, Only-command, Goes-on, Is-over, Pending-is-harmless}
-use Rattle.laws.proofs.TextMotions.{times-keeps}
-use Rattle.laws.proofs.Outcomes.{Outcome, inserts, cancel-ends, normal-key-outcome}
-use Rattle.laws.proofs.Repeats.{reachable-consistent, cancel-is, typed-outside, repeat-last-at-rest}
+use Rattle.spec.specs.Laws.{continued, goes-on-with, cannot-command, can-not, Only-command, Goes-on, Is-over, Pending-is-harmless}
+use Rattle.laws.proofs.TextMotions.{times-keeps, Each}
+use Rattle.laws.proofs.Dispatching.{repeats-outside, key-repeated, key-typed, typed-outside}
+use Rattle.laws.proofs.Phases.{Next}
+use Rattle.laws.proofs.HistoryOutcomes.{Outcome, waits, types, refuses, ends, undoes, redoes}
+use Rattle.laws.proofs.KeyOutcomes.{typed-keys}
+use Rattle.laws.proofs.KeysSound.{some-sound}
+use Rattle.laws.proofs.Replays.{repeat-done}
 use Rattle.laws.proofs.Cannot.{can-not-cancels, cannot-escape}
 use Rattle.laws.proofs.Sight.{in-sight}
 
@@ -76,14 +81,6 @@ repeat-of-nothing : (e : Ed) (n : ℕ) → e .last-keys ≡ [] → repeat-last e
 unfolding repeat-last replay
 repeat-of-nothing e n q = times-keeps (λ f. f ≡ cancel e) (λ f. replay f (e .last-keys)) (λ f h. ap (replay f) q ∙ h) (or-one n) (cancel e) refl
 
-key-typed : (e : Ed) (k : ℕ) → repeats e k ≡ false → key e k ≡ scrolled (typed-key e k)
-unfolding key
-key-typed e k h = ap scrolled (cond-false _ _ _ h)
-
-key-repeated : (e : Ed) (k : ℕ) → repeats e k ≡ true → key e k ≡ scrolled (repeat-last e (pending-count (e .command .pending)))
-unfolding key
-key-repeated e k h = ap scrolled (cond-true _ _ _ h)
-
 -- A command that is going on after a key.
 
 some≢none : {p : Pending} → some p ≡ none → ⊥
@@ -92,22 +89,52 @@ some≢none q = let z : _≡_ {A = ℕ} 0 1 = cc in omega arith
 Unfinished : Ed → Ed → Type 0
 Unfinished e f = f .inserting ≡ false → (f .command .keys ≡ [] → ⊥) → Only-command e f
 
-outcome-unfinished : (e : Ed) (k : ℕ) (f : Ed) → Reachable e → (g : Option Pending) (b : Bool) → Outcome g b (noted e k) f → Unfinished e (scrolled f)
-unfolding Unfinished noted scrolled
-outcome-unfinished e k f w (some p) b s o n = only-command e f _ w s
-outcome-unfinished e k f w none false s o n = absurd (n (ap (λ (c : OpenCommand). c .keys) (s .command)))
-outcome-unfinished e k f w none true (inl s) o n = absurd (true≢false (sym (s .inside) ∙ o))
-outcome-unfinished e k f w none true (inr s) o n = absurd (n (ap (λ (x : Ed). x .command .keys) s ∙ ap (λ (c : OpenCommand). c .keys) (cancel-ends (noted e k) .command)))
+outcome-unfinished : (e : Ed) (k : ℕ) {x : Next} {f : Ed} → Reachable e → Outcome (noted e k) x f → Unfinished e (scrolled f)
+unfolding Unfinished noted scrolled finish
+outcome-unfinished e k w (waits q i) o n = only-command e (with-pending (noted e k) q) _ w refl
+outcome-unfinished e k w (types x v i) o n = absurd (true≢false (sym i ∙ o))
+outcome-unfinished e k w (refuses c i) o n = absurd (n refl)
+outcome-unfinished e k w (ends c x v) o n = absurd (n refl)
+outcome-unfinished e k w (undoes m i) o n = absurd (n refl)
+outcome-unfinished e k w (redoes m i) o n = absurd (n refl)
 
-unfinished : (e : Ed) (k : ℕ) → Reachable e → e .inserting ≡ false → Unfinished e (key e k)
-unfolding Unfinished scrolled noted
-unfinished e k w i = ⊎-elim repeated not-repeated (cases-bool (repeats e k))
+unfinished : (e : Ed) (k : ℕ) → Reachable e → Unfinished e (key e k)
+unfolding Unfinished scrolled
+unfinished e k w = ⊎-elim repeated not-repeated (cases-bool (repeats e k))
   where
     repeated : repeats e k ≡ true → Unfinished e (key e k)
-    repeated q = subst (Unfinished e) (sym (key-repeated e k q)) (λ o n. absurd (n (ap (λ (c : OpenCommand). c .keys) (repeat-last-at-rest e (pending-count (e .command .pending)) (reachable-consistent e w) .command))))
+    repeated q =
+        let h = some-sound w in
+        subst (Unfinished e) (sym (key-repeated e k q)) (λ o n. absurd (n (repeat-done (h .0) e (repeats-outside e k q) (h .1) (pending-count (e .command .pending)) .replayed .keys)))
 
     not-repeated : repeats e k ≡ false → Unfinished e (key e k)
-    not-repeated q = subst (Unfinished e) (sym (key-typed e k q)) (outcome-unfinished e k (typed-key e k) w (goes-on-with (e .command .pending) k) (inserts (e .command .pending) k) (rw (typed-outside e k i) (normal-key-outcome (noted e k) k)))
+    not-repeated q = subst (Unfinished e) (sym (key-typed e k q)) (outcome-unfinished e k w (typed-keys e k (some-sound w .1 .within)))
+
+-- keys that go on with a command
+continues : (e : Ed) (p : Prefix) (k : Key) → Each (λ q. command-key e p k ≡ with-pending e q) (continued p k)
+unfolding command-key digit-key operator-key awaiter-key
+continues e p (digit d) = by (eqb d 0 && not (has-count p))
+  where
+    by : (b : Bool) → Each (λ q. cond b (run-motion e p to-line-start) (with-pending e (ready (longer-count p d))) ≡ with-pending e q) (cond b none (some (ready (longer-count p d))))
+    by true = tt
+    by false = refl
+continues e p (motion m) = tt
+continues e (counting n) (operator o) = refl
+continues e (operating q n m) (operator o) = tt
+continues e p (awaiter byte-to-find) = refl
+continues e p (awaiter byte-to-stop-before) = refl
+continues e p (awaiter second-g) = refl
+continues e (counting n) (awaiter byte-to-write) = refl
+continues e (operating o n m) (awaiter byte-to-write) = tt
+continues e (counting n) (action a) = tt
+continues e (operating o n m) (action a) = tt
+continues e p repeat = tt
+continues e p no-command = tt
+
+continues-by : (e : Ed) (p : Pending) (k : ℕ) → Each (λ q. normal-key (with-pending e p) k ≡ with-pending e q) (goes-on-with p k)
+unfolding normal-key
+continues-by e (ready p) k = continues (with-pending e (ready p)) p (key-of k)
+continues-by e (awaiting a p) k = tt
 
 goes-on : (e : Ed) (k : ℕ) (p : Pending) → Reachable e → e .inserting ≡ false → goes-on-with (e .command .pending) k ≡ some p → Goes-on e k p
 unfolding noted scrolled
@@ -120,7 +147,14 @@ goes-on e k p w i g = record { only-command = subst (Only-command e) (sym is) (o
     is = key-typed e k not-repeated
 
     typed : typed-key e k ≡ with-pending (noted e k) p
-    typed = rw (typed-outside e k i) (subst (λ (h : Option Pending). Outcome h (inserts (e .command .pending) k) (noted e k) (normal-key (noted e k) k)) g (normal-key-outcome (noted e k) k))
+    typed = typed-outside e k i ∙ subst (Each (λ q. normal-key (noted e k) k ≡ with-pending (noted e k) q)) g (continues-by (noted e k) (e .command .pending) k)
+
+-- a command can't be done where none of its changes was made: all else stays as it is
+cancel-is : (e : Ed) → e .inserting ≡ false → e .command .changes ≡ [] → cancel e ≡ with-command e (no-command-yet (e .cursor))
+unfolding cancel finish-in-column finish recorded
+cancel-is e o c =
+    let P : Bool → List Change → Type 0 = λ b cs. cancel (with-inserting (with-changes e cs) b) ≡ with-command (with-inserting e b) (no-command-yet (e .cursor)) in
+    subst₂ P (sym o) (sym c) refl
 
 over : (e : Ed) (k : ℕ) (f : Ed) → Reachable e → key e k ≡ scrolled f → f ≡ with-command e (no-command-yet (e .cursor)) → Is-over e k
 unfolding scrolled
@@ -131,7 +165,7 @@ unfolding noted
 not-done e k w i c = ⊎-elim repeated not-repeated (cases-bool (repeats e k))
   where
     closed : e .command .changes ≡ []
-    closed = reachable-consistent e w .closed i
+    closed = some-sound w .1 .quiet i
 
     repeated : repeats e k ≡ true → Is-over e k
     repeated q = over e k _ w (key-repeated e k q) (repeat-of-nothing e _ (nothing-to-repeat e k q c) ∙ cancel-is e i closed)
@@ -141,4 +175,4 @@ not-done e k w i c = ⊎-elim repeated not-repeated (cases-bool (repeats e k))
 
 pub pending-is-harmless : Pending-is-harmless
 unfolding Unfinished
-pending-is-harmless e w i = record { unfinished = λ k. unfinished e k w i; goes-on = λ k p. goes-on e k p w i; not-done = λ k. not-done e k w i; escaped = not-done e escape w i (cannot-escape e) }
+pending-is-harmless e w i = record { unfinished = λ k. unfinished e k w; goes-on = λ k p. goes-on e k p w i; not-done = λ k. not-done e k w i; escaped = not-done e escape w i (cannot-escape e) }

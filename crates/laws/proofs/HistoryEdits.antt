@@ -1,16 +1,16 @@
 -- What a command does to the editor before it ends: changes are made and recorded; undo and redo stay.
 use mathlib.Core.Path.{_≡_, refl, sym, ap, _∙_}
-use mathlib.Core.Bool.{_&&_}
+use mathlib.Core.Bool.{Bool, true, _&&_}
 use mathlib.Core.List.{List, [], _∷_, _++_, append-assoc}
 use Prim.Native.Nat.{ℕ, _+_, _≤_, max}
 use native.Mathlib.Omega.{arith}
 use lib.ListN.{length, length-take, length-drop}
 use lib.Dec.{eqb}
-use Rattle.std.proofs.shelf.Tests.{cond-both, and-parts, eqb-true}
-use Rattle.lists.proofs.Replaced.{length-replaced}
+use Rattle.std.proofs.shelf.Tests.{cond-both}
 use Rattle.spec.specs.Text.{Text, part, replaced}
 use Rattle.spec.specs.Motions.{Region}
-use Rattle.spec.specs.Editor.{Change, Ed, with-text, with-cursor, with-changes}
+use Rattle.spec.specs.Keys.{Pending, no-prefix}
+use Rattle.spec.specs.Editor.{Change, Ed, with-text, with-cursor, with-inserting, with-pending, with-changes}
 use Rattle.spec.specs.History.{edit}
 use Rattle.spec.specs.Commands.{yanked, start-insert}
 use Rattle.spec.specs.Promises.{changes-weight, units-weight}
@@ -55,8 +55,9 @@ edits-then e f g x y =
 
 -- The steps.
 
-pub moved-edits : (e f : Ed) (a : ℕ) → Edits e f → Edits e (with-cursor f a)
-moved-edits e f a x =
+-- where the cursor is, whether bytes are inserted and what is pending is no part of that
+placed-edits : (e f : Ed) (a : ℕ) (b : Bool) (p : Pending) → Edits e f → Edits e (with-pending (with-inserting (with-cursor f a) b) p)
+placed-edits e f a b p x =
     record {
       recent = x .recent;
       applied = x .applied;
@@ -69,20 +70,12 @@ moved-edits e f a x =
       register = x .register;
     }
 
+pub moved-edits : (e f : Ed) (a : ℕ) → Edits e f → Edits e (with-cursor f a)
+moved-edits e f a x = placed-edits e f a (f .inserting) (f .command .pending) x
+
 pub start-insert-edits : (e f : Ed) → Edits e f → Edits e (start-insert f)
 unfolding start-insert
-start-insert-edits e f x =
-    record {
-      recent = x .recent;
-      applied = x .applied;
-      changes = x .changes;
-      undo = x .undo;
-      redo = x .redo;
-      keys = x .keys;
-      began = x .began;
-      last-keys = x .last-keys;
-      register = x .register;
-    }
+start-insert-edits e f x = placed-edits e f (f .cursor) true no-prefix x
 
 pub yanked-edits : (e : Ed) (r : Region) → Edits e (yanked e r)
 unfolding yanked
@@ -118,16 +111,3 @@ module _ (e : Ed) (a b : ℕ) (new : Text) (to : ℕ) (order : a ≤ b) (within 
   unfolding edit
   edit-edits =
       cond-both (eqb (length (part (e .text) a b)) 0 && eqb (length new) 0) (with-cursor e to) _ (Edits e) (λ _. moved-edits e e to (no-edit e)) (λ _. changed-edits)
-
-  -- what was put in is there
-  pub edit-length : a + length new ≤ length (edit e a b new to .text)
-  unfolding edit
-  edit-length =
-      cond-both (eqb (length (part (e .text) a b)) 0 && eqb (length new) 0) (with-cursor e to) _ (λ f. a + length new ≤ length (f .text)) (λ q. omega (arith, eqb-true (length new) 0 (and-parts _ _ q .1))) (λ _. omega (arith, length-replaced (e .text) new a b within))
-
-  edit-cursor : edit e a b new to .cursor ≡ to
-  unfolding edit
-  edit-cursor = cond-both (eqb (length (part (e .text) a b)) 0 && eqb (length new) 0) (with-cursor e to) _ (λ f. f .cursor ≡ to) (λ _. refl) (λ _. refl)
-
-  pub edit-within : to ≤ a + length new → edit e a b new to .cursor ≤ length (edit e a b new to .text)
-  edit-within h = omega (arith, edit-length, edit-cursor)

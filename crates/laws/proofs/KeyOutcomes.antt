@@ -10,6 +10,7 @@ use Rattle.spec.specs.Editor.{Ed}
 use Rattle.spec.specs.History.{cancel}
 use Rattle.spec.specs.Commands.{insert-key}
 use Rattle.spec.specs.Dispatch.{argument-key, digit-key, operator-key, awaiter-key, command-key, normal-key, noted, typed-key}
+use Rattle.laws.proofs.TextMotions.{or-one-positive}
 use Rattle.laws.proofs.Phases.{typing, waiting, phase, goes-on, over, behind-operator, behind-motion, behind-argument, behind-key, next}
 use Rattle.laws.proofs.HistoryOutcomes.{Within, Idle, Outcome, waits, cancels, either, by-test, runs-motion, operates-lines}
 use Rattle.laws.proofs.Actions.{writes-over, runs-action, inserts-key}
@@ -18,7 +19,7 @@ argument-keys : (e : Ed) (a : Argument) (p : Prefix) (k : ℕ) → Idle e → Ou
 unfolding argument-key
 argument-keys e byte-to-find p k w = runs-motion e p (find k) w
 argument-keys e byte-to-stop-before p k w = runs-motion e p (till k) w
-argument-keys e byte-to-write p k w = writes-over e (or-one (total-count p)) k w
+argument-keys e byte-to-write p k w = writes-over e (or-one (total-count p)) k (or-one-positive (total-count p)) w
 argument-keys e second-g p k w = either e (behind-motion p) (eqb k (ascii "g")) _ _ (λ _. runs-motion e p to-line-or-first w) (λ _. cancels e _ w)
 
 digit-keys : (e : Ed) (p : Prefix) (d : ℕ) → Idle e → Outcome e (behind-key p (digit d)) (digit-key e p d)
@@ -58,6 +59,14 @@ normal-keys e k w = by (e .command .pending)
     by : (q : Pending) → Outcome e (next (waiting q) k) (elim q [ ready p ↦ command-key e p (key-of k) | awaiting a p ↦ cond (eqb k escape) (cancel e) (argument-key e a p k) ])
     by (ready p) = command-keys e p (key-of k) w
     by (awaiting a p) = by-test e (eqb k escape) over (behind-argument a p) _ _ (cancels e over w) (argument-keys e a p k w)
+
+pub noted-within : (e : Ed) (k : ℕ) → Within e → Within (noted e k)
+unfolding noted
+noted-within e k w = w
+
+pub noted-idle : (e : Ed) (k : ℕ) → e .inserting ≡ false → noted e k .inserting ≡ false
+unfolding noted
+noted-idle e k i = i
 
 pub typed-keys : (e : Ed) (k : ℕ) → Within e → Outcome (noted e k) (next (phase e) k) (typed-key e k)
 unfolding typed-key noted

@@ -1,18 +1,20 @@
 -- Every editor that keys lead to is sound.
 use mathlib.Core.Path.{_≡_, refl}
-use mathlib.Core.Bool.{true, false, not}
+use mathlib.Core.Bool.{false}
 use mathlib.Core.List.{List, [], _∷_}
-use Prim.Native.Nat.{ℕ, zero, suc}
+use Prim.Native.Nat.{ℕ}
 use native.Mathlib.Omega.{arith}
 use lib.ListN.{length}
 use lib.Dec.{eqb}
-use Rattle.std.proofs.shelf.Tests.{cond-both, and-parts, not-true}
+use Rattle.std.proofs.shelf.Tests.{cond-both}
 use Rattle.spec.specs.Text.{Text}
-use Rattle.spec.specs.Motions.{times, or-one}
+use Rattle.spec.specs.Motions.{or-one}
 use Rattle.spec.specs.Editor.{Ed, initial}
 use Rattle.spec.specs.History.{finish-in-column, cancel}
 use Rattle.spec.specs.Dispatch.{typed-key, replay, repeat-last, repeats, pending-count, scrolled, key}
 use Rattle.spec.specs.Promises.{Reachable, Reachable-from}
+use Rattle.laws.proofs.TextMotions.{times-keeps}
+use Rattle.laws.proofs.Dispatching.{repeats-outside}
 use Rattle.laws.proofs.Sound.{Sound, start, finish-keys, closed-sound, typed-sound}
 
 pub initial-sound : (t : Text) (r c : ℕ) → Sound t (initial t r c)
@@ -42,22 +44,14 @@ replay-sound s [] e h = h
 replay-sound s (k ∷ ks) e h =
     cond-both (eqb (length (typed-key e k .command .keys)) 0) (typed-key e k) (replay (typed-key e k) ks) (Sound s) (λ _. typed-sound s e k h) (λ _. replay-sound s ks (typed-key e k) (typed-sound s e k h))
 
-replays-sound : (s : Text) (ks : List ℕ) (n : ℕ) (e : Ed) → Sound s e → Sound s (times n (λ f. replay f ks) e)
-replays-sound s ks zero e h = h
-replays-sound s ks (suc n) e h = replays-sound s ks n (replay e ks) (replay-sound s ks e h)
-
-pub repeats-idle : (e : Ed) (k : ℕ) → repeats e k ≡ true → e .inserting ≡ false
-unfolding repeats
-repeats-idle e k r = not-true (e .inserting) (and-parts (not (e .inserting)) _ r .0)
-
 repeat-sound : (s : Text) (e : Ed) (n : ℕ) → e .inserting ≡ false → Sound s e → Sound s (repeat-last e n)
 unfolding repeat-last
-repeat-sound s e n i h = replays-sound s (e .last-keys) (or-one n) (cancel e) (cancel-sound s e i h)
+repeat-sound s e n i h = times-keeps (Sound s) (λ f. replay f (e .last-keys)) (replay-sound s (e .last-keys)) (or-one n) (cancel e) (cancel-sound s e i h)
 
 pub key-sound : (s : Text) (e : Ed) (k : ℕ) → Sound s e → Sound s (key e k)
 unfolding key
 key-sound s e k h =
-    scrolled-sound s _ (cond-both (repeats e k) (repeat-last e (pending-count (e .command .pending))) (typed-key e k) (Sound s) (λ r. repeat-sound s e _ (repeats-idle e k r) h) (λ _. typed-sound s e k h))
+    scrolled-sound s _ (cond-both (repeats e k) (repeat-last e (pending-count (e .command .pending))) (typed-key e k) (Sound s) (λ r. repeat-sound s e _ (repeats-outside e k r) h) (λ _. typed-sound s e k h))
 
 pub reachable-sound : (t : Text) (r c : ℕ) {e : Ed} → Reachable-from t r c e → Sound t e
 reachable-sound t r c Reachable-from.first = initial-sound t r c

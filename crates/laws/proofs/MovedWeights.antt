@@ -2,7 +2,7 @@
 use mathlib.Core.Path.{_≡_, refl, ap, _∙_}
 use mathlib.Core.Bool.{false}
 use mathlib.Core.List.{List, [], _∷_, _++_, reverse, reverse-cons}
-use Prim.Native.Nat.{ℕ, zero, suc, _+_, _-_, _≤_}
+use Prim.Native.Nat.{ℕ, suc, _+_, _-_, _≤_}
 use native.Mathlib.Omega.{arith}
 use lib.ListN.{length, length-append}
 use lib.Dec.{eqb}
@@ -18,9 +18,11 @@ use Rattle.spec.specs.Dispatch.{noted, scrolled, key}
 use Rattle.spec.specs.Promises.{changes-weight, units-weight, weight}
 use Rattle.spec.specs.HistoryLaws.{unit-changes, Undone, Runs, Moved, undoing, redoing, Between-is-bounded}
 use Rattle.laws.proofs.Weights.{changes-weight-append, unmade-weight, remade-weight}
+use Rattle.laws.proofs.TextMotions.{times-keeps, times-same}
 use Rattle.laws.proofs.HistoryOutcomes.{Within}
-use Rattle.laws.proofs.Histories.{Settled, settled-history, undo-none, redo-none, undo-settled, redo-settled}
-use Rattle.laws.proofs.Sound.{Sound, Stays, undo-stays, redo-stays, times-stays, times-sound, noted-history}
+use Rattle.laws.proofs.KeyOutcomes.{noted-within, noted-idle}
+use Rattle.laws.proofs.Histories.{Settled, undo-none, redo-none, undo-settled, redo-settled}
+use Rattle.laws.proofs.Sound.{Sound, Stays, undo-stays, redo-stays, times-stays, noted-quiet, noted-settled}
 use Rattle.laws.proofs.Accounts.{undo-times, redo-times}
 use Rattle.laws.proofs.UndoKeys.{finished-same}
 use Rattle.laws.proofs.KeysSound.{some-sound}
@@ -67,34 +69,26 @@ module _ (s : Text) (e : Ed) (h : Settled s e) (q : e .command .changes ≡ []) 
   undo-on-way =
       let f : Ed = times j undo-once e in
       let x : Undone e f = undo-times s j e h in
-      let y : Undone f (times (n - j) undo-once f) = undo-times s (n - j) f (times-sound undo-once undo-stays s (undo-settled s) j e h) in
+      let y : Undone f (times (n - j) undo-once f) = undo-times s (n - j) f (times-keeps (Settled s) undo-once (undo-settled s) j e h) in
       rw (times-split j n undo-once e l) (omega (arith, weighed e f x, weighed f _ y, stays-weight e f q (times-stays undo-once undo-stays j e w q)))
 
   redo-on-way : weight (times j redo-once e) ≤ weight e + units-weight (times n redo-once e .undo)
   redo-on-way =
       let f : Ed = times j redo-once e in
       let x : Undone f e = redo-times s j e h in
-      let y : Undone (times (n - j) redo-once f) f = redo-times s (n - j) f (times-sound redo-once redo-stays s (redo-settled s) j e h) in
+      let y : Undone (times (n - j) redo-once f) f = redo-times s (n - j) f (times-keeps (Settled s) redo-once (redo-settled s) j e h) in
       rw (times-split j n redo-once e l) (omega (arith, weighed f e x, weighed _ f y, stays-weight e f q (times-stays redo-once redo-stays j e w q)))
-
-undo-nothing : (j : ℕ) (e : Ed) → e .undo ≡ [] → times j undo-once e ≡ e
-undo-nothing zero e n = refl
-undo-nothing (suc j) e n = ap (times j undo-once) (undo-none e n) ∙ undo-nothing j e n
-
-redo-nothing : (j : ℕ) (e : Ed) → e .redo ≡ [] → times j redo-once e ≡ e
-redo-nothing zero e n = refl
-redo-nothing (suc j) e n = ap (times j redo-once) (redo-none e n) ∙ redo-nothing j e n
 
 module _ (s : Text) (e : Ed) (h : Settled s e) (q : e .command .changes ≡ []) (w : Within e) (j n : ℕ) (l : j ≤ n) where
   undo-bound : weight (times j undo-once e) ≤ weight e + weight (scrolled (undo-by e n))
   unfolding undo-by
   undo-bound =
-      cond-both (eqb (length (e .undo)) 0) (cancel e) (finish (times n undo-once e)) (λ g. weight (times j undo-once e) ≤ weight e + weight (scrolled g)) (λ z. rw (undo-nothing j e (nil-from-length (e .undo) (eqb-true _ 0 z))) (omega arith)) (λ _. omega (arith, undo-on-way s e h q w j n l, ap units-weight (finished-same (times n undo-once e) (times-stays undo-once undo-stays n e w q .changes) .redo)))
+      cond-both (eqb (length (e .undo)) 0) (cancel e) (finish (times n undo-once e)) (λ g. weight (times j undo-once e) ≤ weight e + weight (scrolled g)) (λ z. rw (times-same undo-once e (undo-none e (nil-from-length (e .undo) (eqb-true _ 0 z))) j) (omega arith)) (λ _. omega (arith, undo-on-way s e h q w j n l, ap units-weight (finished-same (times n undo-once e) (times-stays undo-once undo-stays n e w q .changes) .redo)))
 
   redo-bound : weight (times j redo-once e) ≤ weight e + weight (scrolled (redo-by e n))
   unfolding redo-by
   redo-bound =
-      cond-both (eqb (length (e .redo)) 0) (cancel e) (finish (times n redo-once e)) (λ g. weight (times j redo-once e) ≤ weight e + weight (scrolled g)) (λ z. rw (redo-nothing j e (nil-from-length (e .redo) (eqb-true _ 0 z))) (omega arith)) (λ _. omega (arith, redo-on-way s e h q w j n l, ap units-weight (finished-same (times n redo-once e) (times-stays redo-once redo-stays n e w q .changes) .undo)))
+      cond-both (eqb (length (e .redo)) 0) (cancel e) (finish (times n redo-once e)) (λ g. weight (times j redo-once e) ≤ weight e + weight (scrolled g)) (λ z. rw (times-same redo-once e (redo-none e (nil-from-length (e .redo) (eqb-true _ 0 z))) j) (omega arith)) (λ _. omega (arith, redo-on-way s e h q w j n l, ap units-weight (finished-same (times n redo-once e) (times-stays redo-once redo-stays n e w q .changes) .undo)))
 
 -- As keys.
 
@@ -103,29 +97,18 @@ unfolding noted
 noted-weight e k = omega (arith, length-append (e .command .keys) (k ∷ []))
 
 module _ (s : Text) (e : Ed) (k n j : ℕ) (h : Sound s e) (l : j ≤ or-one n) where
-  noted-within : Within (noted e k)
-  unfolding noted
-  noted-within = h .within
-
-  noted-still : e .inserting ≡ false → noted e k .command .changes ≡ []
-  unfolding noted
-  noted-still i = h .quiet i
-
-  noted-settled : e .inserting ≡ false → Settled s (noted e k)
-  noted-settled i = settled-history s (noted e k) (noted-still i) (noted-history s e k h)
-
   undoing-bound : Runs e k n go-back → weight (times j undo-once (noted e k)) ≤ suc (weight e + weight (key e k))
   unfolding run-action
   undoing-bound r =
       let i : e .inserting ≡ false = r .not-inserting in
-      let b : weight (times j undo-once (noted e k)) ≤ weight (noted e k) + weight (scrolled (undo-by (noted e k) (or-one n))) = undo-bound s (noted e k) (noted-settled i) (noted-still i) noted-within j (or-one n) l in
+      let b : weight (times j undo-once (noted e k)) ≤ weight (noted e k) + weight (scrolled (undo-by (noted e k) (or-one n))) = undo-bound s (noted e k) (noted-settled s e k h (noted-idle e k i)) (noted-quiet s e k h (noted-idle e k i)) (noted-within e k (h .within)) j (or-one n) l in
       rw (runs-key e k n go-back r, runs-typed e k n go-back r) (omega (arith, b, noted-weight e k))
 
   redoing-bound : Runs e k n go-forth → weight (times j redo-once (noted e k)) ≤ suc (weight e + weight (key e k))
   unfolding run-action
   redoing-bound r =
       let i : e .inserting ≡ false = r .not-inserting in
-      let b : weight (times j redo-once (noted e k)) ≤ weight (noted e k) + weight (scrolled (redo-by (noted e k) (or-one n))) = redo-bound s (noted e k) (noted-settled i) (noted-still i) noted-within j (or-one n) l in
+      let b : weight (times j redo-once (noted e k)) ≤ weight (noted e k) + weight (scrolled (redo-by (noted e k) (or-one n))) = redo-bound s (noted e k) (noted-settled s e k h (noted-idle e k i)) (noted-quiet s e k h (noted-idle e k i)) (noted-within e k (h .within)) j (or-one n) l in
       rw (runs-key e k n go-forth r, runs-typed e k n go-forth r) (omega (arith, b, noted-weight e k))
 
 pub moved-bound : (s : Text) (e : Ed) (k : ℕ) (f : Ed) → Sound s e → Moved e k f → weight f ≤ suc (weight e + weight (key e k))

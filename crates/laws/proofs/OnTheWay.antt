@@ -1,5 +1,5 @@
 -- The editors on the way of a repeat and of a key that joins lines, and what they weigh.
-use mathlib.Core.Path.{_≡_, refl, sym, ap, _∙_}
+use mathlib.Core.Path.{_≡_, sym, ap, _∙_}
 use mathlib.Core.Bool.{false}
 use Prim.Native.Nat.{ℕ, zero, suc, _+_, _-_, _≤_, max}
 use native.Mathlib.Nat.{zero-add, suc-add}
@@ -12,15 +12,17 @@ use Rattle.spec.specs.Text.{line-end}
 use Rattle.spec.specs.Motions.{times, or-one}
 use Rattle.spec.specs.Keys.{repeat, action, Action, join-lines, key-of, counting}
 use Rattle.spec.specs.Editor.{Ed}
-use Rattle.spec.specs.History.{finish, finish-in-column, cancel}
+use Rattle.spec.specs.History.{finish}
 use Rattle.spec.specs.Commands.{join-once, join-by, run-action}
 use Rattle.spec.specs.Dispatch.{command-key, noted, typed-key, key, scrolled}
 use Rattle.spec.specs.HistoryLaws.{Runs, Between}
+use Rattle.laws.proofs.TextMotions.{times-same}
 use Rattle.laws.proofs.HistoryEdits.{Edits}
 use Rattle.laws.proofs.HistoryOutcomes.{Within}
+use Rattle.laws.proofs.KeyOutcomes.{noted-within}
 use Rattle.laws.proofs.Actions.{joins-edits, joins-within}
 use Rattle.laws.proofs.UndoKeys.{typed-first, key-first}
-use Rattle.laws.proofs.Progress.{Progress, progress-then, edits-progress, closed-progress, noted-progress}
+use Rattle.laws.proofs.Progress.{Progress, progress-then, edits-progress, closed-progress, cancel-progress, noted-progress}
 
 -- A key that is a command of one key.
 
@@ -53,17 +55,9 @@ join-nothing : (e : Ed) → ltb (line-end (e .text) (e .cursor)) (length (e .tex
 unfolding join-once
 join-nothing e n = cond-false _ _ e n
 
-joins-nothing : (j : ℕ) (e : Ed) → join-once e ≡ e → times j join-once e ≡ e
-joins-nothing zero e n = refl
-joins-nothing (suc j) e n = ap (times j join-once) n ∙ joins-nothing j e n
-
 finish-progress : (e : Ed) → Progress e (finish e)
 unfolding finish
 finish-progress e = closed-progress e (finish e .kept-column)
-
-cancel-progress : (e : Ed) → Progress e (cancel e)
-unfolding cancel finish-in-column
-cancel-progress e = closed-progress e (e .kept-column)
 
 joining-progress : (e : Ed) (j n : ℕ) → Within e → j ≤ n → Progress (times j join-once e) (finish (times n join-once e))
 joining-progress e j n w h =
@@ -74,7 +68,7 @@ joining-progress e j n w h =
 joined-progress : (e : Ed) (j n : ℕ) → Within e → j ≤ max 1 (n - 1) → Progress (times j join-once e) (join-by e n)
 unfolding join-by
 joined-progress e j n w h =
-    cond-both (ltb (line-end (e .text) (e .cursor)) (length (e .text))) _ _ (Progress (times j join-once e)) (λ _. joining-progress e j (max 1 (n - 1)) w h) (λ q. rw (joins-nothing j e (join-nothing e q)) (cancel-progress e))
+    cond-both (ltb (line-end (e .text) (e .cursor)) (length (e .text))) _ _ (Progress (times j join-once e)) (λ _. joining-progress e j (max 1 (n - 1)) w h) (λ q. rw (times-same join-once e (join-nothing e q) j) (cancel-progress e))
 
 -- An editor on the way, between two others.
 
@@ -91,14 +85,10 @@ between e f g w k =
     record { from = w .before .grows; to = w .after .grows; bound = omega (arith, w .before .register, w .before .redo, w .after .grows) }
 
 module _ (e : Ed) (k n j : ℕ) (r : Runs e k n join-lines) (w : Within e) (h : j ≤ max 1 (or-one n - 1)) where
-  noted-within : Within (noted e k)
-  unfolding noted
-  noted-within = w
-
   pub joined-edits : Edits (noted e k) (times j join-once (noted e k))
-  joined-edits = joins-edits j (noted e k) noted-within
+  joined-edits = joins-edits j (noted e k) (noted-within e k w)
 
   pub joining-on-way : On-way e (times j join-once (noted e k)) (typed-key e k)
   unfolding run-action
   joining-on-way =
-      record { before = progress-then e (noted e k) _ (noted-progress e k) (edits-progress _ _ joined-edits); after = rw (runs-typed e k n join-lines r) (joined-progress (noted e k) j (or-one n) noted-within h) }
+      record { before = progress-then e (noted e k) _ (noted-progress e k) (edits-progress _ _ joined-edits); after = rw (runs-typed e k n join-lines r) (joined-progress (noted e k) j (or-one n) (noted-within e k w) h) }

@@ -12,9 +12,9 @@ use Rattle.spec.specs.HistoryLaws.{Accounted, made, undone, redone, Only-change
 use Rattle.laws.proofs.Phases.{phase, Next, next}
 use Rattle.laws.proofs.HistoryOutcomes.{Outcome, waits, types, refuses, ends, undoes, redoes}
 use Rattle.laws.proofs.KeyOutcomes.{typed-keys}
-use Rattle.laws.proofs.Histories.{Settled, settled-history}
-use Rattle.laws.proofs.Sound.{Sound, Stays, undo-stays, redo-stays, times-stays, noted-history, noted-quiet}
-use Rattle.laws.proofs.KeysSound.{repeats-idle, some-sound}
+use Rattle.laws.proofs.Sound.{Sound, Stays, undo-stays, redo-stays, times-stays, noted-quiet, noted-settled}
+use Rattle.laws.proofs.Dispatching.{repeats-outside}
+use Rattle.laws.proofs.KeysSound.{some-sound}
 use Rattle.laws.proofs.UndoAll.{Same, same-back}
 use Rattle.laws.proofs.UndoKeys.{finished-same, noted-same}
 use Rattle.laws.proofs.UndoBytes.{Onward, goes, is-over, only-u, only-control-r}
@@ -23,9 +23,6 @@ use Rattle.laws.proofs.Progress.{outcome-progress, noted-progress, scrolled-pr
 use Rattle.laws.proofs.Replays.{repeat-done}
 
 module _ (s : Text) (e : Ed) (k : ℕ) (h : Sound s e) where
-  noted-settled : noted e k .inserting ≡ false → Settled s (noted e k)
-  noted-settled i = settled-history s (noted e k) (noted-quiet s e k h i) (noted-history s e k h)
-
   onward-accounted : {x : Next} {f : Ed} → Onward x → Outcome (noted e k) x f → Accounted e k (scrolled f)
   onward-accounted o x =
       made (made-then e (noted e k) _ (noted-progress e k .made) (made-then (noted e k) _ _ (outcome-progress (noted e k) o x .made) (scrolled-progress _ .made)))
@@ -41,11 +38,11 @@ module _ (s : Text) (e : Ed) (k : ℕ) (h : Sound s e) where
   outcome-accounted n (undoes m w) =
       let f : Ed = times m undo-once (noted e k) in
       let x : Stays (noted e k) f = times-stays undo-once undo-stays m (noted e k) (w .within) (noted-quiet s e k h (w .idle)) in
-      undone (only-u (phase e) k n) (undone-same (noted e k) f e _ (noted-same e k) (moved-same f x) (undo-times s m (noted e k) (noted-settled (w .idle))))
+      undone (only-u (phase e) k n) (undone-same (noted e k) f e _ (noted-same e k) (moved-same f x) (undo-times s m (noted e k) (noted-settled s e k h (w .idle))))
   outcome-accounted n (redoes m w) =
       let f : Ed = times m redo-once (noted e k) in
       let x : Stays (noted e k) f = times-stays redo-once redo-stays m (noted e k) (w .within) (noted-quiet s e k h (w .idle)) in
-      redone (only-control-r (phase e) k n) (undone-same f (noted e k) _ e (moved-same f x) (noted-same e k) (redo-times s m (noted e k) (noted-settled (w .idle))))
+      redone (only-control-r (phase e) k n) (undone-same f (noted e k) _ e (moved-same f x) (noted-same e k) (redo-times s m (noted e k) (noted-settled s e k h (w .idle))))
 
   repeat-accounted : e .inserting ≡ false → (n : ℕ) → Accounted e k (scrolled (repeat-last e n))
   repeat-accounted i n = made (made-then e (repeat-last e n) _ (repeat-done s e i h n .progress .made) (scrolled-progress _ .made))
@@ -53,7 +50,7 @@ module _ (s : Text) (e : Ed) (k : ℕ) (h : Sound s e) where
   key-accounted : Accounted e k (key e k)
   unfolding key
   key-accounted =
-      cond-both (repeats e k) (repeat-last e (pending-count (e .command .pending))) (typed-key e k) (λ f. Accounted e k (scrolled f)) (λ r. repeat-accounted (repeats-idle e k r) _) (λ _. outcome-accounted refl (typed-keys e k (h .within)))
+      cond-both (repeats e k) (repeat-last e (pending-count (e .command .pending))) (typed-key e k) (λ f. Accounted e k (scrolled f)) (λ r. repeat-accounted (repeats-outside e k r) _) (λ _. outcome-accounted refl (typed-keys e k (h .within)))
 
 pub only-changes-change : Only-changes-change
 only-changes-change e k r = let h = some-sound r in key-accounted (h .0) e k (h .1)

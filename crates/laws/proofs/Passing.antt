@@ -6,7 +6,7 @@ use Prim.Native.Nat.{ℕ, suc, _-_, _≤_, _<_}
 use native.Mathlib.Omega.{arith}
 use lib.ListN.{length, length-append}
 use lib.Dec.{eqb}
-use Rattle.std.proofs.shelf.Tests.{cond-both, cond-false, cond-true, eqb-false, ne-eqb}
+use Rattle.std.proofs.shelf.Tests.{cond-both, eqb-false}
 use Rattle.spec.specs.Text.{Text}
 use Rattle.spec.specs.Motions.{times, or-one}
 use Rattle.spec.specs.Keys.{join-lines}
@@ -18,10 +18,11 @@ use Rattle.spec.specs.HistoryLaws.{Joining, joined, Replaying as Passed-replay,
 use Rattle.laws.proofs.HistoryEdits.{Edits}
 use Rattle.laws.proofs.HistoryOutcomes.{Within}
 use Rattle.laws.proofs.Sound.{Sound}
-use Rattle.laws.proofs.KeysSound.{repeats-idle}
+use Rattle.laws.proofs.Dispatching.{repeats-outside, key-repeated}
 use Rattle.laws.proofs.Progress.{Progress, progress-none, progress-then, scrolled-progress}
 use Rattle.laws.proofs.Replays.{Replayed, Replaying, Stepped, ended, going, Done, replaying-progress, typed-stepped, stepped-going, replaying-done, replay-begins, replays-done, repeated-done, more, same, parts-more}
 use Rattle.laws.proofs.UndoAll.{times-last}
+use Rattle.laws.proofs.ReplaySteps.{replay-goes-on}
 use Rattle.laws.proofs.OnTheWay.{runs-key, times-split, On-way, on-way-within, between, joined-edits, joining-on-way}
 
 -- Within a replay.
@@ -69,15 +70,11 @@ module _ (s : Text) (ks : List ℕ) where
           last-keys = x .last-keys ∙ same s ks typed rest e k r;
         }
 
-    replay-further : 0 < length (typed-key e k .command .keys) → replay e (k ∷ rest) ≡ replay (typed-key e k) rest
-    unfolding replay
-    replay-further l = cond-false _ (typed-key e k) _ (ne-eqb (length (typed-key e k .command .keys)) 0 (λ n. omega arith))
-
     goes-on-replaying : 0 < length (typed-key e k .command .keys) → Replaying s ks (typed ++ (k ∷ [])) rest (typed-key e k)
     goes-on-replaying l = stepped-going s ks typed rest k (typed-key e k) (typed-stepped s ks typed rest e k r) (λ n. omega arith)
 
     further-passes : {f : Ed} → 0 < length (typed-key e k .command .keys) → Passes ks (typed-key e k) f (replay (typed-key e k) rest) → Passes ks e f (replay e (k ∷ rest))
-    further-passes {f} l p = rw (replay-further l) (passes-before ks e (typed-key e k) f _ (replaying-progress s ks typed rest e k r) p)
+    further-passes {f} l p = rw (replay-goes-on e k rest l) (passes-before ks e (typed-key e k) f _ (replaying-progress s ks typed rest e k r) p)
 
   replay-passes : {e f : Ed} {rest : List ℕ} (typed : List ℕ) → Replaying s ks typed rest e → Passed-replay e rest f → Passes ks e f (replay e rest)
   replay-passes typed r (during j) = during-passes typed _ _ _ r j
@@ -122,7 +119,7 @@ module _ (s : Text) (e : Ed) (h : Sound s e) (idle : e .inserting ≡ false) whe
 
 repeat-key : (e : Ed) (k : ℕ) → repeats e k ≡ true → key e k ≡ scrolled (repeated e (or-one (pending-count (e .command .pending))))
 unfolding key repeat-last
-repeat-key e k r = ap scrolled (cond-true (repeats e k) _ _ r)
+repeat-key e k r = key-repeated e k r
 
 -- On the way of lines joined.
 
@@ -138,5 +135,5 @@ between-joins e k f w (joined n j r l) =
 
 pub passed-between : (s : Text) (e : Ed) (k : ℕ) (f : Ed) → Sound s e → Passed e k f → Between e f (key e k)
 passed-between s e k f h (joining j) = between-joins e k f (h .within) j
-passed-between s e k f h (replayed i r l) = rw (repeat-key e k r) (between-replays s e h (repeats-idle e k r) i _ l)
-passed-between s e k f h (replaying i r l p) = rw (repeat-key e k r) (between-keys s e h (repeats-idle e k r) i _ f l p)
+passed-between s e k f h (replayed i r l) = rw (repeat-key e k r) (between-replays s e h (repeats-outside e k r) i _ l)
+passed-between s e k f h (replaying i r l p) = rw (repeat-key e k r) (between-keys s e h (repeats-outside e k r) i _ f l p)

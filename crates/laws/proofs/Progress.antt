@@ -6,10 +6,11 @@ use Prim.Native.Nat.{ℕ, _+_, _≤_, max}
 use native.Mathlib.Omega.{arith}
 use lib.ListN.{length}
 use Rattle.spec.specs.Editor.{Change, Ed}
-use Rattle.spec.specs.History.{recorded, finish, unmade, remade}
+use Rattle.spec.specs.History.{recorded, finish, finish-in-column, cancel, unmade, remade}
 use Rattle.spec.specs.Dispatch.{noted, typed-key, scrolled}
 use Rattle.spec.specs.Promises.{changes-weight, units-weight}
 use Rattle.spec.specs.HistoryLaws.{unit-changes, recorded-weight, Made}
+use Rattle.laws.proofs.Edits.{finish-text}
 use Rattle.laws.proofs.HistoryEdits.{Edits, edits-grow}
 use Rattle.laws.proofs.Phases.{phase, Next, next}
 use Rattle.laws.proofs.HistoryOutcomes.{Within, closed, Outcome, waits, types, refuses, ends, undoes, redoes}
@@ -42,17 +43,21 @@ recorded-grows e [] = omega arith
 recorded-grows e (c ∷ cs) = omega arith
 
 -- the rest of what it leaves
-recorded-rest : (e : Ed) (cs : List Change) → (recorded e cs .text ≡ e .text) × (recorded e cs .register ≡ e .register) × (units-weight (recorded e cs .redo) ≤ units-weight (e .redo))
+recorded-rest : (e : Ed) (cs : List Change) → (recorded e cs .register ≡ e .register) × (units-weight (recorded e cs .redo) ≤ units-weight (e .redo))
 unfolding recorded
-recorded-rest e [] = (refl, refl, omega arith)
-recorded-rest e (c ∷ cs) = (refl, refl, omega arith)
+recorded-rest e [] = (refl, omega arith)
+recorded-rest e (c ∷ cs) = (refl, omega arith)
 
 pub closed-progress : (e : Ed) (c : ℕ) → Progress e (closed e c)
 unfolding finish
 closed-progress e c =
     let g = recorded-grows e (e .command .changes) in
     let r = recorded-rest e (e .command .changes) in
-    record { made = closed-made e c; grows = omega (arith, g, ap length (r .0)); register = omega (arith, ap (λ x. length (x .bytes)) (r .1)); redo = r .2 }
+    record { made = closed-made e c; grows = omega (arith, g, ap length (finish-text e)); register = omega (arith, ap (λ x. length (x .bytes)) (r .0)); redo = r .1 }
+
+pub cancel-progress : (e : Ed) → Progress e (cancel e)
+unfolding cancel finish-in-column
+cancel-progress e = closed-progress e (e .kept-column)
 
 -- One key.
 

@@ -14,7 +14,7 @@ pub data Typed (e : Ed) (ks : List ℕ) : Ed → List ℕ → Type 0 where
   nothing : Typed e ks e ks
   more : {f : Ed} {k : ℕ} {rest : List ℕ} → Typed e ks f (k ∷ rest) → 0 < length (typed-key f k .command .keys) → Typed e ks (typed-key f k) rest
 
-replay-goes-on : (e : Ed) (k : ℕ) (rest : List ℕ) → 0 < length (typed-key e k .command .keys) → replay e (k ∷ rest) ≡ replay (typed-key e k) rest
+pub replay-goes-on : (e : Ed) (k : ℕ) (rest : List ℕ) → 0 < length (typed-key e k .command .keys) → replay e (k ∷ rest) ≡ replay (typed-key e k) rest
 unfolding replay
 replay-goes-on e k rest l = cond-false _ (typed-key e k) _ (ne-eqb (length (typed-key e k .command .keys)) 0 (λ n. omega arith))
 

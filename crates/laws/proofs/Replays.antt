@@ -2,7 +2,7 @@
 use mathlib.Core.Path.{_≡_, refl, sym, ap, subst, _∙_}
 use mathlib.Core.Bool.{false, cond}
 use mathlib.Core.List.{List, [], _∷_, _++_, append-assoc, append-nil}
-use Prim.Native.Nat.{ℕ, zero, suc, _<_}
+use Prim.Native.Nat.{ℕ, _<_}
 use native.Mathlib.Omega.{arith}
 use lib.ListN.{length, length-append}
 use lib.Dec.{eqb}
@@ -12,6 +12,7 @@ use Rattle.spec.specs.Motions.{times, or-one}
 use Rattle.spec.specs.Editor.{Change, Ed}
 use Rattle.spec.specs.History.{finish, finish-in-column, cancel}
 use Rattle.spec.specs.Dispatch.{noted, typed-key, replay, repeat-last}
+use Rattle.laws.proofs.TextMotions.{times-keeps}
 use Rattle.laws.proofs.HistoryEdits.{Edits}
 use Rattle.laws.proofs.Phases.{Phase, typing, waiting, phase, Next, goes-on, over, back, forth, next}
 use Rattle.laws.proofs.HistoryOutcomes.{closed, Outcome, waits, types, refuses, ends, undoes, redoes}
@@ -19,7 +20,7 @@ use Rattle.laws.proofs.KeyOutcomes.{typed-keys}
 use Rattle.laws.proofs.UndoBytes.{Onward, goes, is-over}
 use Rattle.laws.proofs.Sound.{Sound, start, Leads, If-goes-on, Complete, Repeatable, kept-keys, finish-keys, noted-keys, noted-quiet, typed-sound}
 use Rattle.laws.proofs.KeysSound.{cancel-sound}
-use Rattle.laws.proofs.Progress.{Progress, progress-none, progress-then, closed-progress, typed-progress}
+use Rattle.laws.proofs.Progress.{Progress, progress-none, progress-then, cancel-progress, typed-progress}
 
 -- at a command's end
 pub record Replayed (s : Text) (ks : List ℕ) (e : Ed) : Type 0 where
@@ -145,10 +146,8 @@ module _ (s : Text) (ks : List ℕ) where
       at (k ∷ js) n = replaying-done ks [] e (replay-begins k js e n r)
 
   pub replays-done : (n : ℕ) (e : Ed) → Replayed s ks e → Done s ks e (times n (λ f. replay f ks) e)
-  replays-done zero e r = record { progress = progress-none e; replayed = r }
-  replays-done (suc n) e r =
-      let d : Done s ks e (replay e ks) = replay-done e r in
-      done-then s ks e (replay e ks) _ (d .progress) (replays-done n (replay e ks) (d .replayed))
+  replays-done n e r =
+      times-keeps (Done s ks e) (λ f. replay f ks) (λ f d. done-then s ks e f (replay f ks) (d .progress) (replay-done f (d .replayed))) n e (record { progress = progress-none e; replayed = r })
 
 -- . as a key
 
@@ -160,13 +159,9 @@ module _ (s : Text) (e : Ed) (i : e .inserting ≡ false) (h : Sound s e) where
   cancelled : Replayed s (e .last-keys) (cancel e)
   cancelled = record { sound = cancel-sound s e i h; keys = cancelled-keys .0; last-keys = cancelled-keys .1 }
 
-  cancel-progress : Progress e (cancel e)
-  unfolding cancel finish-in-column
-  cancel-progress = closed-progress e (e .kept-column)
-
   -- so far
   pub repeated-done : (n : ℕ) → Done s (e .last-keys) e (times n (λ f. replay f (e .last-keys)) (cancel e))
-  repeated-done n = done-then s (e .last-keys) e (cancel e) _ cancel-progress (replays-done s (e .last-keys) n (cancel e) cancelled)
+  repeated-done n = done-then s (e .last-keys) e (cancel e) _ (cancel-progress e) (replays-done s (e .last-keys) n (cancel e) cancelled)
 
   pub repeat-done : (n : ℕ) → Done s (e .last-keys) e (repeat-last e n)
   unfolding repeat-last

@@ -2,7 +2,7 @@
 use mathlib.Core.Path.{_≡_, refl, sym, ap, subst, _∙_}
 use mathlib.Core.Bool.{true, false}
 use mathlib.Core.List.{List, [], _∷_, _++_}
-use Prim.Native.Nat.{ℕ, zero, suc}
+use Prim.Native.Nat.{ℕ}
 use Rattle.std.proofs.shelf.Tests.{true≢false}
 use Rattle.spec.specs.Text.{Text}
 use Rattle.spec.specs.Motions.{times}
@@ -10,7 +10,9 @@ use Rattle.spec.specs.Keys.{Pending, no-prefix}
 use Rattle.spec.specs.Editor.{Change, UndoUnit, Ed, with-pending}
 use Rattle.spec.specs.History.{recorded, finish, undo-once, redo-once}
 use Rattle.spec.specs.Dispatch.{noted, typed-key}
-use Rattle.laws.proofs.LineBounds.{clamp-within}
+use Rattle.laws.proofs.Standing.{clamp-stands}
+use Rattle.laws.proofs.TextMotions.{times-keeps}
+use Rattle.laws.proofs.Edits.{finish-text, finish-cursor}
 use Rattle.laws.proofs.HistoryEdits.{Edits}
 use Rattle.laws.proofs.Phases.{Phase, typing, waiting, phase, Next, goes-on, over, back, forth, next}
 use Rattle.laws.proofs.HistoryOutcomes.{Within, Idle, closed, Outcome, waits, types, refuses, ends, undoes, redoes}
@@ -76,16 +78,8 @@ pub finish-keys : (e : Ed) (cs : List Change) → e .command .changes ≡ cs →
 unfolding finish
 finish-keys e cs n = ap (λ ds. recorded e ds .last-keys) n ∙ recorded-keys e cs
 
-recorded-place : (e : Ed) (cs : List Change) → (recorded e cs .cursor ≡ e .cursor) × (recorded e cs .text ≡ e .text)
-unfolding recorded
-recorded-place e [] = (refl, refl)
-recorded-place e (c ∷ cs) = (refl, refl)
-
 finish-within : (e : Ed) → Within e → Within (finish e)
-unfolding finish
-finish-within e w =
-    let p = recorded-place e (e .command .changes) in
-    rw (p .0, p .1) w
+finish-within e w = rw (finish-cursor e, finish-text e) w
 
 pub closed-sound : (s : Text) (e : Ed) (c : ℕ) → Within e → History s e → Repeatable (finish e .last-keys) → Sound s (closed e c)
 unfolding finish
@@ -114,32 +108,25 @@ undo-stays e w q = at (e .undo) refl
   where
     at : (us : List UndoUnit) → e .undo ≡ us → Stays e (undo-once e)
     at [] n = rw (undo-none e n) (stays-same e w q)
-    at (u ∷ us) n = rw (undo-some e u us n) (record { within = clamp-within _ _; changes = refl; keys = refl; last-keys = refl; register = refl })
+    at (u ∷ us) n = rw (undo-some e u us n) (record { within = clamp-stands _ _ .within; changes = refl; keys = refl; last-keys = refl; register = refl })
 
 pub redo-stays : (e : Ed) → Within e → e .command .changes ≡ [] → Stays e (redo-once e)
 redo-stays e w q = at (e .redo) refl
   where
     at : (us : List UndoUnit) → e .redo ≡ us → Stays e (redo-once e)
     at [] n = rw (redo-none e n) (stays-same e w q)
-    at (u ∷ us) n = rw (redo-some e u us n) (record { within = clamp-within _ _; changes = refl; keys = refl; last-keys = refl; register = refl })
+    at (u ∷ us) n = rw (redo-some e u us n) (record { within = clamp-stands _ _ .within; changes = refl; keys = refl; last-keys = refl; register = refl })
 
 module _ (f : Ed → Ed) (stays : (e : Ed) → Within e → e .command .changes ≡ [] → Stays e (f e)) where
   pub times-stays : (n : ℕ) (e : Ed) → Within e → e .command .changes ≡ [] → Stays e (times n f e)
-  times-stays zero e w q = stays-same e w q
-  times-stays (suc n) e w q =
-      let x : Stays e (f e) = stays e w q in
-      stays-then e (f e) (times n f (f e)) x (times-stays n (f e) (x .within) (x .changes))
-
-  pub times-sound : (s : Text) → ((e : Ed) → Settled s e → Settled s (f e)) → (n : ℕ) (e : Ed) → Settled s e → Settled s (times n f e)
-  times-sound s p zero e h = h
-  times-sound s p (suc n) e h = times-sound s p n (f e) (p e h)
+  times-stays n e w q = times-keeps (Stays e) f (λ g x. stays-then e g (f g) x (stays g (x .within) (x .changes))) n e (stays-same e w q)
 
   pub finished-times-sound : (s : Text) → ((e : Ed) → Settled s e → Settled s (f e)) → (n : ℕ) (e : Ed) → Within e → e .command .changes ≡ [] → History s e → Repeatable (e .last-keys) → Sound s (finish (times n f e))
   unfolding finish
   finished-times-sound s p n e w q h r =
       let g : Ed = times n f e in
       let x : Stays e g = times-stays n e w q in
-      closed-sound s g (finish g .kept-column) (x .within) (history-settled s g (x .changes) (times-sound s p n e (settled-history s e q h))) (subst Repeatable (sym (finish-keys g [] (x .changes) ∙ x .last-keys)) r)
+      closed-sound s g (finish g .kept-column) (x .within) (history-settled s g (x .changes) (times-keeps (Settled s) f p n e (settled-history s e q h))) (subst Repeatable (sym (finish-keys g [] (x .changes) ∙ x .last-keys)) r)
 
 -- One key.
 
@@ -151,6 +138,9 @@ module _ (s : Text) (e : Ed) (k : ℕ) (sound : Sound s e) where
   pub noted-quiet : noted e k .inserting ≡ false → noted e k .command .changes ≡ []
   unfolding noted
   noted-quiet i = sound .quiet i
+
+  pub noted-settled : noted e k .inserting ≡ false → Settled s (noted e k)
+  noted-settled i = settled-history s (noted e k) (noted-quiet i) noted-history
 
   noted-repeatable : Repeatable (noted e k .last-keys)
   unfolding noted
@@ -200,7 +190,7 @@ module _ (s : Text) (e : Ed) (k : ℕ) (sound : Sound s e) where
   outcome-sound n (waits q w) = waits-sound q n w
   outcome-sound n (types x w i) = types-sound _ n x w i
   outcome-sound n (refuses c w) = refuses-sound c w
-  outcome-sound n (ends c x w) = ends-sound _ c n x w
+  outcome-sound n (ends c x w) = ends-sound _ c n x (w .within)
   outcome-sound n (undoes m w) =
       finished-times-sound undo-once undo-stays s (undo-settled s) m (noted e k) (w .within) (noted-quiet (w .idle)) noted-history noted-repeatable
   outcome-sound n (redoes m w) =

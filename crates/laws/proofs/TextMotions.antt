@@ -12,14 +12,22 @@ use Rattle.std.proofs.shelf.Tests.{cond-both, and-parts, eqb-true, true≢false
 use Rattle.std.proofs.shelf.Ways.{tells}
 use Rattle.spec.specs.Bytes.{Class, white, alphanumeric, punctuation, class, same-class, is-white, is-newline}
 use Rattle.spec.specs.Text.{Text, byte, part, skip-forward, skip-back, is-in-line, line-end, line-start}
-use Rattle.spec.specs.Motions.{times, is-empty-line, skip-white, word-passed, next-word, skip-white-back, word-start, previous-word, word-last, word-end, nth-found, find-in-line}
+use Rattle.spec.specs.Motions.{times, or-one, is-empty-line, skip-white, word-passed, next-word, skip-white-back, word-start, previous-word, word-last, word-end, nth-found, find-in-line}
 use Rattle.laws.proofs.TextLines.{skip-forward-up, skip-forward-bound, skip-back-down, skip-back-passes}
 use Rattle.laws.proofs.Standing.{Stands-at, line-start-stands, byte-stands}
+
+pub or-one-positive : (n : ℕ) → 1 ≤ or-one n
+or-one-positive zero = omega arith
+or-one-positive (suc n) = omega arith
 
 -- a function so many times keeps what it keeps once
 pub times-keeps : {A : Type 0} (P : A → Type 0) (f : A → A) → ((a : A) → P a → P (f a)) → (n : ℕ) (a : A) → P a → P (times n f a)
 times-keeps P f keeps zero a h = h
 times-keeps P f keeps (suc n) a h = times-keeps P f keeps n (f a) (keeps a h)
+
+-- and leaves what it leaves once
+pub times-same : {A : Type 0} (f : A → A) (a : A) → f a ≡ a → (n : ℕ) → times n f a ≡ a
+times-same f a e n = times-keeps (λ b. b ≡ a) f (λ b h. ap f h ∙ e) n a refl
 
 -- what may be there has a property
 abbrev pub Each : {A : Type 0} → (A → Type 0) → Option A → Type 0

@@ -15,9 +15,10 @@ use Rattle.spec.specs.History.{recorded, finish, cancel, undo-once, redo-once}
 use Rattle.spec.specs.Commands.{undo-by, redo-by, run-action}
 use Rattle.spec.specs.Dispatch.{argument-key, command-key, normal-key, noted, typed-key, repeats, scrolled, key}
 use Rattle.spec.specs.HistoryLaws.{Restored, Ready, Undo-key-redo-key}
-use Rattle.laws.proofs.HistoryOutcomes.{Within}
+use Rattle.laws.proofs.Dispatching.{key-typed, typed-outside}
+use Rattle.laws.proofs.KeyOutcomes.{noted-within, noted-idle}
 use Rattle.laws.proofs.Histories.{undo-some, redo-some}
-use Rattle.laws.proofs.Sound.{Sound, Stays, undo-stays, redo-stays}
+use Rattle.laws.proofs.Sound.{Sound, Stays, undo-stays, redo-stays, noted-quiet}
 use Rattle.laws.proofs.KeysSound.{key-sound, some-sound}
 use Rattle.laws.proofs.UndoAll.{Same, same-then, redo-same, undo-same, undone-redone, redone-undone, sound-settled}
 
@@ -29,16 +30,14 @@ module _ (e : Ed) (k n : ℕ) (i : e .inserting ≡ false) (p : e .command .pend
       ap (λ (q : Pending). elim q [ ready r ↦ command-key (noted e k) r (key-of k) | awaiting a r ↦ cond (eqb k escape) (cancel (noted e k)) (argument-key (noted e k) a r k) ]) p
 
   pub typed-first : typed-key e k ≡ command-key (noted e k) (counting n) (key-of k)
-  unfolding typed-key
-  typed-first = cond-false (e .inserting) _ _ i ∙ normal-first
+  typed-first = typed-outside e k i ∙ normal-first
 
   no-repeat : eqb k (ascii ".") ≡ false → repeats e k ≡ false
   unfolding repeats
   no-repeat q = rw (i, q) refl
 
   pub key-first : eqb k (ascii ".") ≡ false → key e k ≡ scrolled (typed-key e k)
-  unfolding key
-  key-first q = ap scrolled (cond-false (repeats e k) _ (typed-key e k) (no-repeat q))
+  key-first q = key-typed e k (no-repeat q)
 
 some-left : (us : List UndoUnit) → 0 < length us → eqb (length us) 0 ≡ false
 some-left us h = ne-eqb (length us) 0 (λ n. omega arith)
@@ -65,14 +64,6 @@ pub noted-same : (e : Ed) (k : ℕ) → Same (noted e k) e
 unfolding noted
 noted-same e k = record { text = refl; undo = refl; redo = refl }
 
-noted-within : (e : Ed) (k : ℕ) → Within e → Within (noted e k)
-unfolding noted
-noted-within e k w = w
-
-noted-quiet : (e : Ed) (k : ℕ) → e .command .changes ≡ [] → noted e k .command .changes ≡ []
-unfolding noted
-noted-quiet e k q = q
-
 -- a sound editor where a command may begin
 record Begins (s : Text) (e : Ed) : Type 0 where
   sound : Sound s e
@@ -89,21 +80,18 @@ unfolding scrolled finish
 behind-finish s e f x h = record { same = finished-same f (x .changes); begins = record { sound = h; idle = refl; none = refl } }
 
 module _ (s : Text) (e : Ed) (b : Begins s e) where
-  quiet : e .command .changes ≡ []
-  quiet = b .sound .quiet (b .idle)
-
   behind-back : 0 < length (e .undo) → Behind s (undo-once e) (key e (ascii "u"))
   behind-back l =
       let n : Ed = noted e (ascii "u") in
       let is : key e (ascii "u") ≡ scrolled (finish (undo-once n)) = key-back e (b .idle) (b .none) l in
-      let f : Behind s (undo-once n) (scrolled (finish (undo-once n))) = behind-finish s n (undo-once n) (undo-stays n (noted-within e (ascii "u") (b .sound .within)) (noted-quiet e (ascii "u") quiet)) (rw is at (key-sound s e (ascii "u") (b .sound))) in
+      let f : Behind s (undo-once n) (scrolled (finish (undo-once n))) = behind-finish s n (undo-once n) (undo-stays n (noted-within e (ascii "u") (b .sound .within)) (noted-quiet s e (ascii "u") (b .sound) (noted-idle e (ascii "u") (b .idle)))) (rw is at (key-sound s e (ascii "u") (b .sound))) in
       rw is (record { same = same-then _ _ _ (f .same) (undo-same n e (noted-same e (ascii "u"))); begins = f .begins })
 
   behind-forth : 0 < length (e .redo) → Behind s (redo-once e) (key e control-r)
   behind-forth l =
       let n : Ed = noted e control-r in
       let is : key e control-r ≡ scrolled (finish (redo-once n)) = key-forth e (b .idle) (b .none) l in
-      let f : Behind s (redo-once n) (scrolled (finish (redo-once n))) = behind-finish s n (redo-once n) (redo-stays n (noted-within e control-r (b .sound .within)) (noted-quiet e control-r quiet)) (rw is at (key-sound s e control-r (b .sound))) in
+      let f : Behind s (redo-once n) (scrolled (finish (redo-once n))) = behind-finish s n (redo-once n) (redo-stays n (noted-within e control-r (b .sound .within)) (noted-quiet s e control-r (b .sound) (noted-idle e control-r (b .idle)))) (rw is at (key-sound s e control-r (b .sound))) in
       rw is (record { same = same-then _ _ _ (f .same) (redo-same n e (noted-same e control-r)); begins = f .begins })
 
 restored : (e f : Ed) → Same f e → Restored e f
