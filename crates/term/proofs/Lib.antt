@@ -1,0 +1,4 @@
+pub mod Scenes
+pub mod Upper
+pub mod Sequels
+pub mod Paints

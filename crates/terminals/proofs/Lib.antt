@@ -1,0 +1,10 @@
+pub mod Decimals
+pub mod Feeds
+pub mod Drawing
+pub mod Rows
+pub mod Mixed
+pub mod Orders
+pub mod Sending
+pub mod Painting
+pub mod Ends
+pub mod Pictures

@@ -1,0 +1,4 @@
+pub mod Sequences
+pub mod Drawing
+pub mod Progress
+pub mod Painting
