@@ -2,4 +2,5 @@
 pub mod Rope
 pub mod Join
 pub mod Cut
+pub mod Costs
 pub mod Laws
