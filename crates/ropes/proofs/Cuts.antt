@@ -9,9 +9,10 @@ use lib.ListN.{length, take, drop, length-take, length-drop, length-append}
 use lib.Seq.{take-nil, drop-nil, take-append-add, drop-append-add}
 use Rattle.std.proofs.shelf.Tests.{eqb-true, leb-true, ltb-true, ltb-false, cond-both}
 use Rattle.std.proofs.shelf.Lists.{take-append-le, drop-append-le, take-all, drop-all}
-use Rattle.ropes.specs.Rope.{Rope, empty, leaf, node, leaf-max, bytes, size, height, Inner, Whole}
+use Rattle.ropes.specs.Rope.{Rope, empty, leaf, node, leaf-max, bytes, size, height, Octets, Inner, Whole}
 use Rattle.ropes.specs.Join.{append, prepend, concat}
 use Rattle.ropes.specs.Cut.{piece, front, back}
+use Rattle.ropes.proofs.Bytes.{octets-take, octets-drop}
 use Rattle.ropes.proofs.Joins.{bytes-append, bytes-prepend, bytes-concat, concat-ok, inner-whole}
 
 pub size-bytes : (t : Rope) → size t ≡ length (bytes t)
@@ -36,10 +37,10 @@ unfolding piece
 bytes-piece [] = refl
 bytes-piece (x ∷ xs) = refl
 
-pub piece-whole : (b : List ℕ) → length b ≤ leaf-max → Whole (piece b)
+pub piece-whole : (b : List ℕ) → length b ≤ leaf-max → Octets b → Whole (piece b)
 unfolding piece
-piece-whole [] h = tt
-piece-whole (x ∷ xs) h = (omega arith, h)
+piece-whole [] h o = tt
+piece-whole (x ∷ xs) h o = (omega arith, h, o)
 
 pub piece-low : (b : List ℕ) → height (piece b) ≤ 1
 unfolding piece
@@ -86,7 +87,7 @@ pub record Part (t : Rope) (h : ℕ) : Type 0 where
 pub front-ok : (t : Rope) (i : ℕ) → Whole t → Part (front t i) (height t)
 unfolding front
 front-ok empty i w = record { whole = tt; high = omega arith }
-front-ok (leaf b) i w = record { whole = piece-whole (take i b) (omega (arith, length-take i b, w .1)); high = piece-low (take i b) }
+front-ok (leaf b) i w = record { whole = piece-whole (take i b) (omega (arith, length-take i b, w .1)) (octets-take i b (w .2)); high = piece-low (take i b) }
 front-ok (node l r) i w =
     let P : Rope → Type 0 = λ z. Part z (height (node l r)) in
     cond-both (eqb i 0) _ _ P (λ _. record { whole = tt; high = omega arith })
@@ -100,7 +101,7 @@ front-ok (node l r) i w =
 pub back-ok : (t : Rope) (i : ℕ) → Whole t → Part (back t i) (height t)
 unfolding back
 back-ok empty i w = record { whole = tt; high = omega arith }
-back-ok (leaf b) i w = record { whole = piece-whole (drop i b) (omega (arith, length-drop i b, w .1)); high = piece-low (drop i b) }
+back-ok (leaf b) i w = record { whole = piece-whole (drop i b) (omega (arith, length-drop i b, w .1)) (octets-drop i b (w .2)); high = piece-low (drop i b) }
 back-ok (node l r) i w =
     let P : Rope → Type 0 = λ z. Part z (height (node l r)) in
     cond-both (eqb i 0) _ _ P (λ _. record { whole = w; high = omega arith })

@@ -9,8 +9,9 @@ use lib.ListN.{length, take, drop, length-take, length-drop, length-append}
 use mathlib.Core.Logic.{_⊎_, inl, inr, ⊎-elim}
 use Rattle.std.proofs.shelf.Tests.{ltb-true, ltb-false, leb-true, leb-false, cond-both, and-parts, and-cases, not-true, not-false, cases-lt}
 use Rattle.std.proofs.shelf.Lists.{take-append-drop}
-use Rattle.ropes.specs.Rope.{Rope, empty, leaf, node, leaf-min, leaf-max, bytes, size, height, Inner, Whole, is-small}
+use Rattle.ropes.specs.Rope.{Rope, empty, leaf, node, leaf-min, leaf-max, bytes, size, height, Octets, Inner, Whole, is-small}
 use Rattle.ropes.specs.Join.{balance, pair, merge, fits-beside, append, prepend, join, concat}
+use Rattle.ropes.proofs.Bytes.{octets-append, octets-take, octets-drop}
 use Rattle.ropes.proofs.Balance.{Fits, bytes-balance, grown-left, grown-right, inner-some}
 
 pub bytes-pair : (a b : List ℕ) → bytes (pair a b) ≡ a ++ b
@@ -55,31 +56,34 @@ bytes-concat (node a b) (leaf c) = bytes-join (node a b) (leaf c)
 bytes-concat (node a b) (node c d) = bytes-join (node a b) (node c d)
 
 -- too many bytes for one leaf are enough for two
-pub pair-halves : (a b : List ℕ) → length a ≤ leaf-max → length b ≤ leaf-max → leaf-max < length a + length b → Fits (node (leaf (take ((length a + length b) / 2) (a ++ b))) (leaf (drop ((length a + length b) / 2) (a ++ b)))) 1
+pub pair-halves : (a b : List ℕ) → Whole (leaf a) → Whole (leaf b) → leaf-max < length a + length b → Fits (node (leaf (take ((length a + length b) / 2) (a ++ b))) (leaf (drop ((length a + length b) / 2) (a ++ b)))) 1
 pair-halves a b ha hb more =
     let n = length a + length b in
     let la : length (a ++ b) ≡ n = length-append a b in
     let lt = length-take (n / 2) (a ++ b) in
     let ld = length-drop (n / 2) (a ++ b) in
-    record { inner = ((omega arith, omega arith), (omega arith, omega arith), omega arith, omega arith); low = omega arith; high = omega arith }
+    let o = octets-append a b (ha .2) (hb .2) in
+    let ma = ha .1 in
+    let mb = hb .1 in
+    record { inner = ((omega arith, omega arith, octets-take (n / 2) (a ++ b) o), (omega arith, omega arith, octets-drop (n / 2) (a ++ b) o), omega arith, omega arith); low = omega arith; high = omega arith }
 
-pub pair-fits : (a b : List ℕ) → length a ≤ leaf-max → length b ≤ leaf-max → leaf-min ≤ length a + length b → Fits (pair a b) 1
+pub pair-fits : (a b : List ℕ) → Whole (leaf a) → Whole (leaf b) → leaf-min ≤ length a + length b → Fits (pair a b) 1
 unfolding pair
 pair-fits a b ha hb some =
     let P : Rope → Type 0 = λ z. Fits z 1 in
     cond-both (leb (length a + length b) leaf-max) _ _ P
     (λ e. let k : length a + length b ≤ leaf-max = leb-true _ _ e in
     let la = length-append a b in
-    record { inner = (omega arith, omega arith); low = omega arith; high = omega arith })
+    record { inner = (omega arith, omega arith, octets-append a b (ha .2) (hb .2)); low = omega arith; high = omega arith })
     (λ e. let k : leaf-max < length a + length b = leb-false _ _ e in
     cond-both (leb leaf-min (length a) && leb leaf-min (length b)) _ _ P
     (λ f. let p = and-parts _ _ f in
-    record { inner = ((leb-true _ _ (p .0), ha), (leb-true _ _ (p .1), hb), omega arith, omega arith); low = omega arith; high = omega arith })
+    record { inner = ((leb-true _ _ (p .0), ha .1, ha .2), (leb-true _ _ (p .1), hb .1, hb .2), omega arith, omega arith); low = omega arith; high = omega arith })
     (λ f. pair-halves a b ha hb k))
 
 pub not-small : (t : Rope) → Whole t → is-small t ≡ false → Inner t
 not-small empty w e = absurd (let z : _≡_ {A = Bool} true false = e in let y : _≡_ {A = ℕ} 0 1 = cc in omega arith)
-not-small (leaf b) w e = (ltb-false _ _ e, w .1)
+not-small (leaf b) w e = (ltb-false _ _ e, w .1, w .2)
 not-small (node l r) w e = w
 
 pub small-low : (t : Rope) → is-small t ≡ true → height t ≤ 1
@@ -89,7 +93,7 @@ small-low (node l r) e = absurd (let y : _≡_ {A = ℕ} 0 1 = cc in omega arith
 
 pub inner-whole : (t : Rope) → Inner t → Whole t
 inner-whole empty i = absurd i
-inner-whole (leaf b) i = (omega (arith, i .0), i .1)
+inner-whole (leaf b) i = (omega (arith, i .0), i .1, i .2)
 inner-whole (node l r) i = i
 
 -- what doesn't fit beside r is higher by two, or r is a leaf
@@ -100,7 +104,7 @@ pub append-inner : (l r : Rope) → Inner l → Whole r → 1 ≤ height r → h
 unfolding append merge
 append-inner empty r il wr some le = absurd il
 append-inner (leaf a) empty il wr some le = absurd (omega arith)
-append-inner (leaf a) (leaf b) il wr some le = pair-fits a b (il .1) (wr .1) (omega (arith, il .0))
+append-inner (leaf a) (leaf b) il wr some le = pair-fits a b (inner-whole (leaf a) il) wr (omega (arith, il .0))
 append-inner (leaf a) (node c d) il wr some le = absurd (omega (arith, inner-some c (wr .0)))
 append-inner (node a b) r il wr some le =
     cond-both (fits-beside (height (node a b)) r) _ _ (λ z. Fits z (height (node a b)))
@@ -115,7 +119,7 @@ pub prepend-inner : (l r : Rope) → Whole l → Inner r → 1 ≤ height l → 
 unfolding prepend merge
 prepend-inner l empty wl ir some le = absurd ir
 prepend-inner empty (leaf b) wl ir some le = absurd (omega arith)
-prepend-inner (leaf a) (leaf b) wl ir some le = pair-fits a b (wl .1) (ir .1) (omega (arith, ir .0))
+prepend-inner (leaf a) (leaf b) wl ir some le = pair-fits a b wl (inner-whole (leaf b) ir) (omega (arith, ir .0))
 prepend-inner (node c d) (leaf b) wl ir some le = absurd (omega (arith, inner-some c (wl .0)))
 prepend-inner l (node a b) wl ir some le =
     cond-both (fits-beside (height (node a b)) l) _ _ (λ z. Fits z (height (node a b)))
@@ -141,9 +145,9 @@ pair-joined a b wa wb =
     ⊎-elim
     (λ (q : length a + length b < leaf-min).
     cond-both (leb (length a + length b) leaf-max) _ _ (λ z. Joined z 1)
-    (λ e. let la = length-append a b in record { whole = (omega (arith, wa .0), omega arith); low = omega arith; high = omega arith })
+    (λ e. let la = length-append a b in record { whole = (omega (arith, wa .0), omega arith, octets-append a b (wa .2) (wb .2)); low = omega arith; high = omega arith })
     (λ e. absurd (omega (arith, leb-false _ _ e))))
-    (λ (q : leaf-min ≤ length a + length b). fits-joined (pair a b) 1 1 refl (pair-fits a b (wa .1) (wb .1) q))
+    (λ (q : leaf-min ≤ length a + length b). fits-joined (pair a b) 1 1 refl (pair-fits a b wa wb q))
     (cases-lt (length a + length b) leaf-min)
 
 pub join-ok : (l r : Rope) → Whole l → Whole r → 1 ≤ height l → 1 ≤ height r → Joined (join l r) (max (height l) (height r))

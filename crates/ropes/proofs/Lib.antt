@@ -1,3 +1,4 @@
+pub mod Bytes
 pub mod Balance
 pub mod Joins
 pub mod Rotations
@@ -5,3 +6,5 @@ pub mod Cuts
 pub mod Depths
 pub mod Counts
 pub mod Descents
+pub mod Edits
+pub mod Builds

@@ -2,5 +2,6 @@
 pub mod Rope
 pub mod Join
 pub mod Cut
+pub mod Build
 pub mod Costs
 pub mod Laws

@@ -1,7 +1,7 @@
 -- A rope is a sequence of bytes as a tree: bytes stand in its leaves alone. Height and size are functions of the value.
 use mathlib.Core.Bool.{Bool, true, false}
-use mathlib.Core.List.{List, [], _++_}
-use Prim.Native.Nat.{ℕ, _+_, _≤_, max}
+use mathlib.Core.List.{List, [], _∷_, _++_}
+use Prim.Native.Nat.{ℕ, _+_, _<_, _≤_, max}
 use lib.Dec.{ltb}
 use lib.ListN.{length}
 
@@ -32,16 +32,21 @@ height empty = 0
 height (leaf b) = 1
 height (node l r) = max (height l) (height r) + 1
 
+-- each is a byte
+unfoldable pub Octets : List ℕ → Type 0
+Octets [] = Unit {0}
+Octets (x ∷ xs) = (x < 256) × Octets xs
+
 -- a part of a rope of more than one leaf
 abbrev pub Inner : Rope → Type 0
 Inner empty = ⊥
-Inner (leaf b) = (leaf-min ≤ length b) × (length b ≤ leaf-max)
+Inner (leaf b) = (leaf-min ≤ length b) × (length b ≤ leaf-max) × Octets b
 Inner (node l r) = Inner l × Inner r × (height l ≤ height r + 1) × (height r ≤ height l + 1)
 
 -- a rope in balance, whose leaves are filled
 abbrev pub Whole : Rope → Type 0
 Whole empty = Unit {0}
-Whole (leaf b) = (1 ≤ length b) × (length b ≤ leaf-max)
+Whole (leaf b) = (1 ≤ length b) × (length b ≤ leaf-max) × Octets b
 Whole (node l r) = Inner (node l r)
 
 -- whether it has too few bytes to stand beside other leaves
