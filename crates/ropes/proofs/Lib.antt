@@ -8,3 +8,5 @@ pub mod Counts
 pub mod Descents
 pub mod Edits
 pub mod Builds
+pub mod Packs
+pub mod Sums

@@ -3,5 +3,6 @@ pub mod Rope
 pub mod Join
 pub mod Cut
 pub mod Build
+pub mod Layout
 pub mod Costs
 pub mod Laws
