@@ -4,7 +4,9 @@ use mathlib.Core.List.{List, [], _∷_, _++_}
 use mathlib.Core.Bool.{cond}
 use Prim.Native.Nat.{ℕ, zero, suc, _+_, _-_, _*_, _<_, _≤_}
 use native.Mathlib.Omega.{arith}
-use lib.ListN.{length, getD, length-append}
+use lib.Dec.{eqb}
+use lib.ListN.{length, getD, take, length-append}
+use Rattle.std.proofs.shelf.Lists.{take-more}
 use Rattle.std.proofs.shelf.Tests.{cond-both}
 use Rattle.spec.specs.Bytes.{is-newline}
 use Rattle.spec.specs.Text.{newlines}
@@ -59,3 +61,12 @@ sum-first a = refl
 pub sums-digits : (a : List ℕ) → length a < 64 → Digits (sums-of a)
 unfolding sums-of Digits
 sums-digits a h = (h, (omega (arith, newlines-few a), (omega arith, (omega arith, (omega arith, (omega arith, tt))))))
+
+pub newlines-none : newlines [] ≡ 0
+unfolding newlines
+newlines-none = refl
+
+-- one byte more
+pub newlines-more : (a : List ℕ) (i : ℕ) → i < length a → newlines (take (i + 1) a) ≡ newlines (take i a) + cond (eqb (getD a i 0) 10) 1 0
+unfolding newlines
+newlines-more a i h = rw (take-more a i 0 h) (newlines-append (take i a) (getD a i 0 ∷ []) ∙ omega arith)

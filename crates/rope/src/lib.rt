@@ -1,0 +1,8 @@
+//! Ropes of bytes in a heap of cells.
+mod sums;
+
+pub use sums::Bytes;
+pub use sums::BytesSum;
+pub use sums::LineEnds;
+pub use sums::LineEndsSum;
+pub use sums::Sum;
