@@ -1,4 +1,5 @@
 //! Ropes of bytes in a heap of cells.
+mod packed;
 mod sums;
 
 pub use sums::Bytes;

@@ -24,7 +24,7 @@ pub trait Sum {
 
     law stands: { (a : List ℕ) → sum-at a place ≡ sums a };
 
-    law known: { place < 5 };
+    law known: { place < 4 };
 
     /// The sum of these bytes.
     fn of(part: &[u8]) -> u32

@@ -4,8 +4,10 @@ use mathlib.Core.List.{List, [], _∷_, _++_}
 use mathlib.Core.Logic.{_⊎_, inl, inr, ⊎-elim}
 use Prim.Native.Nat.{ℕ, zero, suc, _+_, _-_, _*_, _/_, _%_, _<_, _≤_, _^_}
 use native.Mathlib.Omega.{arith}
-use native.Mathlib.Nat.{pow-succ', div-div-eq-div-mul, zero-div}
-use lib.ListN.{length, getD}
+use native.Mathlib.Nat.{pow-suc, pow-succ', div-div-eq-div-mul, zero-div}
+use native.Mathlib.Numerals.{add-one}
+use lib.ListN.{length, getD, drop}
+use Rattle.std.proofs.shelf.Lists.{drop-more}
 use Rattle.std.proofs.shelf.Tests.{cases-eq}
 use Rattle.ropes.specs.Rope.{Octets}
 use Rattle.ropes.specs.Layout.{word, byte-of, word-at, words-from, pack, digit}
@@ -88,3 +90,29 @@ digit-pack [] zero h = digit-none 0
 digit-pack [] (suc k) h = digit-none (suc k)
 digit-pack (x ∷ xs) zero h = digit-first x (pack xs) (h .0)
 digit-pack (x ∷ xs) (suc k) h = digit-next x (pack xs) k (h .0) ∙ digit-pack xs k (h .1)
+
+-- one digit less
+pub divided-none : (w : ℕ) → w ≡ w / 64 ^ 0
+divided-none w = omega arith
+
+pub divided-more : (w k : ℕ) → (w / 64 ^ k) / 64 ≡ w / 64 ^ (k + 1)
+divided-more w k = div-div-eq-div-mul w (64 ^ k) 64 ∙ ap (λ z. w / z) (sym (ap (λ z. 64 ^ z) (add-one k) ∙ pow-suc 64 k))
+
+pub digit-is : (w k : ℕ) → (w / 64 ^ k) % 64 ≡ digit w k
+unfolding digit
+digit-is w k = refl
+
+pub pack-nil : pack [] ≡ 0
+unfolding pack
+pack-nil = refl
+
+pub pack-more : (xs : List ℕ) (k : ℕ) → k < length xs → pack (drop k xs) ≡ 64 * pack (drop (k + 1) xs) + getD xs k 0
+unfolding pack
+pack-more xs k h = rw (drop-more xs k 0 h) (omega arith)
+
+pub pack-drop : (xs : List ℕ) (k : ℕ) → pack (drop k xs) ≤ pack xs
+unfolding pack
+pack-drop [] zero = omega arith
+pack-drop [] (suc k) = omega arith
+pack-drop (x ∷ xs) zero = omega arith
+pack-drop (x ∷ xs) (suc k) = omega (arith, pack-drop xs k)

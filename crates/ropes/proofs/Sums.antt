@@ -2,10 +2,10 @@
 use mathlib.Core.Path.{_≡_, refl, sym, ap, subst, _∙_}
 use mathlib.Core.List.{List, [], _∷_, _++_}
 use mathlib.Core.Bool.{cond}
-use Prim.Native.Nat.{ℕ, zero, suc, _+_, _-_, _*_, _<_, _≤_}
+use Prim.Native.Nat.{ℕ, zero, suc, _+_, _-_, _*_, _^_, _<_, _≤_}
 use native.Mathlib.Omega.{arith}
 use lib.Dec.{eqb}
-use lib.ListN.{length, getD, take, length-append}
+use lib.ListN.{length, getD, take, drop, length-append}
 use Rattle.std.proofs.shelf.Lists.{take-more}
 use Rattle.std.proofs.shelf.Tests.{cond-both}
 use Rattle.spec.specs.Bytes.{is-newline}
@@ -70,3 +70,12 @@ newlines-none = refl
 pub newlines-more : (a : List ℕ) (i : ℕ) → i < length a → newlines (take (i + 1) a) ≡ newlines (take i a) + cond (eqb (getD a i 0) 10) 1 0
 unfolding newlines
 newlines-more a i h = rw (take-more a i 0 h) (newlines-append (take i a) (getD a i 0 ∷ []) ∙ omega arith)
+
+-- behind the sums the digits are 0
+pub pack-unused : (a : List ℕ) → pack (drop used (sums-of a)) ≡ 0
+unfolding sums-of pack
+pack-unused a = refl
+
+pub pack-small : (a : List ℕ) → length a < 64 → pack (sums-of a) < 2 ^ 24
+unfolding sums-of pack
+pack-small a h = omega (arith, newlines-few a)
