@@ -116,3 +116,19 @@ pack-drop [] zero = omega arith
 pack-drop [] (suc k) = omega arith
 pack-drop (x ∷ xs) zero = omega arith
 pack-drop (x ∷ xs) (suc k) = omega (arith, pack-drop xs k)
+
+pub byte-at-0 : (w j : ℕ) → j ≡ 0 → w % 256 ≡ byte-of w j
+unfolding byte-of
+byte-at-0 w j e = let z : w % 256 ≡ (w / 1) % 256 = omega arith in z ∙ sym (ap (byte-of w) e)
+
+pub byte-at-1 : (w j : ℕ) → j ≡ 1 → (w / 256) % 256 ≡ byte-of w j
+unfolding byte-of
+byte-at-1 w j e = sym (ap (byte-of w) e)
+
+pub byte-at-2 : (w j : ℕ) → j ≡ 2 → (w / 65536) % 256 ≡ byte-of w j
+unfolding byte-of
+byte-at-2 w j e = sym (ap (byte-of w) e)
+
+pub byte-at-3 : (w j : ℕ) → j ≡ 3 → (w / 16777216) % 256 ≡ byte-of w j
+unfolding byte-of
+byte-at-3 w j e = sym (ap (byte-of w) e)
