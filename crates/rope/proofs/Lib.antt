@@ -1,1 +1,2 @@
 pub mod Packings
+pub mod Codes

@@ -1,1 +1,3 @@
 pub mod Packed
+pub mod Coded
+pub mod Lending

@@ -1,5 +1,6 @@
 //! Ropes of bytes in a heap of cells.
 mod packed;
+mod reading;
 mod sums;
 
 pub use sums::Bytes;
