@@ -2,16 +2,16 @@
 use mathlib.Core.Path.{_≡_, refl, sym, ap, subst, _∙_}
 use mathlib.Core.List.{List, [], _∷_, _++_}
 use mathlib.Core.Logic.{_≢_, ⊎-elim}
-use Prim.Native.Nat.{ℕ, zero, suc, _+_, _-_, _*_, _/_, _%_, _<_, _≤_}
+use Prim.Native.Nat.{ℕ, zero, suc, _+_, _-_, _*_, _/_, _%_, _<_, _≤_, max}
 use native.Mathlib.Omega.{arith}
-use lib.ListN.{length, getD, set, length-set}
+use lib.ListN.{length, getD, set, length-set, length-append}
 use Rattle.std.proofs.shelf.Tests.{cases-lt, cases-eq}
-use Rattle.std.proofs.shelf.Lists.{ext-getD, getD-set-same, getD-set-other}
-use Rattle.ropes.specs.Rope.{leaf-max, Octets}
-use Rattle.ropes.specs.Layout.{sums-of, sum-at, pack, digit, byte-of, word-at, words-from, leaf-data}
+use Rattle.std.proofs.shelf.Lists.{ext-getD, getD-append-left, getD-append-right}
+use Rattle.ropes.specs.Rope.{Rope, bytes, height, leaf-max, Octets}
+use Rattle.ropes.specs.Layout.{sums-of, sum-at, pack, digit, byte-of, word-at, words-from, node-tag, leaf-data, node-data}
 use Rattle.ropes.proofs.Packs.{digit-pack, byte-of-word-at, length-words-from, getD-words-from}
-use Rattle.ropes.proofs.Sums.{used, length-sums, sum-unused, sums-digits}
-use Rattle.rope.specs.Packed.{SumsBack, BytesBack}
+use Rattle.ropes.proofs.Sums.{used, length-sums, sum-unused, sums-digits, sum-append}
+use Rattle.rope.specs.Packed.{SumsBack, BytesBack, NodeData}
 
 pub zeros : (j : ℕ) → _≡_ {A = ℕ} (getD (0 ∷ 0 ∷ 0 ∷ 0 ∷ 0 ∷ 0 ∷ []) j 0) 0
 zeros zero = refl
@@ -66,3 +66,51 @@ bytes-back w ys each =
           ∙ (ap (λ z. byte-of z (i % 4)) (leaf-word xs (i / 4) (omega arith))
           ∙ (byte-of-word-at xs o (i / 4) (i % 4) (omega arith) ∙ ap (λ z. getD xs z 0) at)));
     }
+
+length-node-data : (u v : Rope) → length (node-data u v) ≡ 13
+unfolding node-data
+length-node-data u v =
+    let a = length-sums (bytes u ++ bytes v) in
+    let b = length-sums (bytes u) in
+    omega (arith, length-append (sums-of (bytes u ++ bytes v)) (sums-of (bytes u)))
+
+pub node-first : (u v : Rope) → getD (node-data u v) 0 0 ≡ node-tag (max (height u) (height v) + 1)
+unfolding node-data
+node-first u v = refl
+
+-- the sums of a node's bytes, among its data
+pub node-sum : (u v : Rope) (k : ℕ) → k < 6 → getD (node-data u v) (1 + k) 0 ≡ sum-at (bytes u ++ bytes v) k
+unfolding node-data
+node-sum u v k h =
+    let e : 1 + k ≡ suc k = omega arith in
+    let long = length-sums (bytes u ++ bytes v) in
+    rw e (getD-append-left (sums-of (bytes u ++ bytes v)) (sums-of (bytes u)) 0 k (omega arith))
+
+-- and those of its left child's
+pub left-sum : (u v : Rope) (k : ℕ) → getD (node-data u v) (7 + k) 0 ≡ sum-at (bytes u) k
+unfolding node-data
+left-sum u v k =
+    let e : 7 + k ≡ suc (6 + k) = omega arith in
+    let f : (6 + k) - 6 ≡ k = omega arith in
+    rw e (getD-append-right (sums-of (bytes u ++ bytes v)) (sums-of (bytes u)) 6 (6 + k) 0 (length-sums (bytes u ++ bytes v)) (omega arith) ∙ ap (λ z. getD (sums-of (bytes u)) z 0) f)
+
+pub node-data-is : (h : ℕ) (l r w : List ℕ) → length w ≡ 13 → getD w 0 0 ≡ node-tag h → ((j : ℕ) → j < 6 → getD w (1 + j) 0 ≡ getD l j 0 + getD r j 0)
+    → ((j : ℕ) → j < 6 → getD w (7 + j) 0 ≡ getD l j 0) → NodeData h l r w
+node-data-is h l r w long first both left =
+    record {
+      is = λ u v high is-l is-r. ext-getD 0 w (node-data u v) (long ∙ sym (length-node-data u v)) (go u v high is-l is-r);
+    }
+  where
+    go : (u v : Rope) → h ≡ max (height u) (height v) + 1 → l ≡ sums-of (bytes u) → r ≡ sums-of (bytes v) → (i : ℕ) → i < length w → getD w i 0 ≡ getD (node-data u v) i 0
+    go u v high is-l is-r zero small = first ∙ (ap node-tag high ∙ sym (node-first u v))
+    go u v high is-l is-r (suc i) small =
+        let a : getD l i 0 ≡ sum-at (bytes u) i = ap (λ z. getD z i 0) is-l in
+        let b : getD r i 0 ≡ sum-at (bytes v) i = ap (λ z. getD z i 0) is-r in
+        let e : suc i ≡ 1 + i = omega arith in
+        ⊎-elim
+        (λ (k : i < 6). rw e (both i k ∙ (omega (arith, a, b, sum-append (bytes u) (bytes v) i) ∙ sym (node-sum u v i k))))
+        (λ (k : 6 ≤ i).
+        let f : suc i ≡ 7 + (i - 6) = omega arith in
+        let c : getD l (i - 6) 0 ≡ sum-at (bytes u) (i - 6) = ap (λ z. getD z (i - 6) 0) is-l in
+        rw f (left (i - 6) (omega arith) ∙ (c ∙ sym (left-sum u v (i - 6)))))
+        (cases-lt i 6)

@@ -4,7 +4,7 @@ ghost use Prim.Native.Nat.{ℕ, _+_, _*_, _<_, _≤_};
 ghost use lib.ListN.{length, getD};
 ghost use Rattle.ropes.specs.Rope.{Octets};
 ghost use Rattle.ropes.specs.Layout.{word, word-at, byte-of as nth-byte, pack as packed, digit, leaf-data};
-ghost use Rattle.rope.specs.Packed.{LeafSums, SumsBack, BytesBack};
+ghost use Rattle.rope.specs.Packed.{LeafSums, SumsBack, BytesBack, Addable, NodeData};
 use crate::sums::Sums;
 use crate::sums::USED;
 use crate::sums::sums_of;
@@ -109,4 +109,19 @@ pub fn unpack(data: Data) -> [u8; 48]
         bytes[i] = byte_of(data[1 + i / 4], i % 4);
     }
     bytes
+}
+
+/// The data words of a node of this height whose children have these sums.
+pub fn node_data(height: u32, left: Sums, right: Sums) -> Data
+    requires height { ⌜ height < 67108863 ⌝ }
+    requires sums { ⌜ Addable left right ⌝ }
+    ensures { λ r. ⌜ NodeData height left right r ⌝ }
+{
+    let mut data = [0; 13];
+    data[0] = 63 + 64 * height;
+    for k in 0..6 {
+        data[1 + k] = left[k] + right[k];
+        data[7 + k] = left[k];
+    }
+    data
 }
