@@ -1,2 +1,4 @@
 pub mod Packings
 pub mod Codes
+pub mod Holds
+pub mod Makings

@@ -1,3 +1,4 @@
 pub mod Packed
 pub mod Coded
 pub mod Lending
+pub mod Building

@@ -1,0 +1,57 @@
+-- What building ropes asks, and what it leaves. A call takes references over. Where there is room the new rope is held in their place,
+-- and else nothing is: they are let go.
+use mathlib.Core.Path.{_≡_}
+use mathlib.Core.List.{List, _∷_}
+use Prim.Native.Nat.{ℕ, _+_, _/_, _<_, _≤_, min}
+use lib.ListN.{length}
+use Rattle.std.specs.declared.option.Option.{Option}
+use Rattle.std.specs.declared.option.Option.the-variants.{Some, None}
+use Rattle.cells.specs.declared.cell.Ref.{Ref}
+use Rattle.cells.specs.Tree.{Tree}
+use Rattle.cells.specs.Tree.{node as cell-of}
+use Rattle.cells.specs.Have.{Item, item, Have, opt, all-nodes}
+use Rattle.cells.specs.Steps.{Full}
+use Rattle.ropes.specs.Rope.{Rope, size, height, cells, Whole}
+use Rattle.rope.specs.Coded.{code}
+
+-- how many cells a row of so many words has room for, the header's 8 among them
+abbrev pub capacity : ℕ → ℕ
+capacity words = min 268435456 (words / 16)
+
+-- what it costs to let two references go where there is no room for what they go into
+abbrev pub giving-up : Option Ref → ℕ
+giving-up None = 10
+giving-up (Some p) = 0
+
+-- The row went from m to m′. The rope t is held beside the rest, or just the rest, since the row has no room for more than `most` cells.
+pub record After (m m′ : List ℕ) (d : Option Ref) (t : Rope) (rest : List Item) (most touched limit : ℕ) : Type 0 where
+  pub have : Have m′ (opt d (code t) rest)
+  pub full : d ≡ None → capacity (length m) ≤ 8 + most
+  pub cost : touched ≤ limit + giving-up d
+
+-- two ropes are held, of which F holds, and few others
+pub record Two (F : Rope → Rope → Type 0) (m : List ℕ) (l r room : ℕ) : Type 0 where
+  pub u : Rope
+  pub v : Rope
+  pub rest : List Item
+  pub fit : F u v
+  pub have : Have m (item l (code u) ∷ (item r (code v) ∷ rest))
+  pub few : length rest + room < 2147483640
+
+-- of two ropes of which F holds f made one
+pub record Joins (F : Rope → Rope → Type 0) (f : Rope → Rope → Rope) (price : Rope → Rope → ℕ) (m m′ : List ℕ) (l r room : ℕ) (d : Option Ref) (before after : ℕ) : Type 0 where
+  pub runs : (x : Two F m l r room) → After m m′ d (f (x .u) (x .v)) (x .rest) (cells (x .u) + cells (x .v) + all-nodes (x .rest) + 1) after (before + price (x .u) (x .v))
+
+-- two ropes that are not empty and may become one
+pub record Fit (u v : Rope) : Type 0 where
+  pub left : Whole u
+  pub right : Whole v
+  pub some-left : 1 ≤ height u
+  pub some-right : 1 ≤ height v
+  pub few : size u + size v < 536870912
+
+-- from m to m′ the references l and r went into a new cell, or were let go
+pub record Placed (m m′ : List ℕ) (l r : ℕ) (w : List ℕ) (d : Option Ref) (before after : ℕ) : Type 0 where
+  pub have : (u v : Tree) (rest : List Item) → Have m (item l u ∷ (item r v ∷ rest)) → Have m′ (opt d (cell-of u v w) rest)
+  pub full : d ≡ None → Full m
+  pub cost : after ≤ before + 31 + giving-up d
