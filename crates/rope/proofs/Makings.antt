@@ -7,19 +7,21 @@ use lib.ListN.{length, getD}
 use Rattle.std.specs.declared.option.Option.{Option}
 use Rattle.std.specs.declared.option.Option.the-variants.{Some, None}
 use Rattle.cells.specs.declared.cell.Ref.{Ref}
-use Rattle.cells.specs.Tree.{Tree}
+use Rattle.cells.specs.Tree.{Tree, none}
 use Rattle.cells.specs.Tree.{node as cell-of}
 use Rattle.cells.specs.Have.{Item, item, Have, opt, all-nodes}
 use Rattle.ropes.specs.Rope.{Rope, bytes, size, height, cells, Whole}
 use Rattle.ropes.specs.Rope.{node as node-of}
-use Rattle.ropes.specs.Layout.{sums-of, node-data}
+use Rattle.cells.specs.Steps.{Making, Released}
+use Rattle.cells.proofs.Held.{sound-some}
+use Rattle.ropes.specs.Layout.{sums-of, leaf-data, node-data}
 use Rattle.ropes.proofs.Cuts.{size-bytes}
 use Rattle.ropes.proofs.Depths.{height-low}
 use Rattle.ropes.proofs.Sums.{sum-small}
 use Rattle.rope.specs.Coded.{code}
 use Rattle.rope.specs.Packed.{Addable, NodeData}
 use Rattle.rope.specs.Lending.{LendsSome, SummaryIs}
-use Rattle.rope.specs.Building.{Two, Joins, After, Fit, Placed}
+use Rattle.rope.specs.Building.{Two, Joins, After, Fit, Placed, Couple, Couples, Free, Leafed}
 use Rattle.rope.specs.declared.reading.Summary.{Summary}
 use Rattle.rope.proofs.Codes.{nodes-code}
 use Rattle.rope.proofs.Holds.{swap-have, have-same, lends-some, full-capacity}
@@ -56,7 +58,59 @@ node-placed m m1 m′ l r w d n n1 n′ same is reads placed =
           let h = have-same m m1 (item l (code (x .u)) ∷ (item r (code (x .v)) ∷ x .rest)) same (x .have) in
           record {
             have = subst (λ z. Have m′ (opt d (cell-of (code (x .u)) (code (x .v)) z) (x .rest))) (is x) (placed .have (code (x .u)) (code (x .v)) (x .rest) h);
-            full = λ e. omega (arith, ap length same, full-capacity m1 _ (cells (x .u) + cells (x .v) + all-nodes (x .rest) + 1) (placed .full e) h (omega (arith, nodes-code (x .u), nodes-code (x .v))));
+            full = λ e. omega (arith, ap length same, full-capacity m1 _ (cells (x .u) + cells (x .v) + all-nodes (x .rest)) (placed .full e) h (omega (arith, nodes-code (x .u), nodes-code (x .v))));
+            cost = omega (arith, placed .cost);
+          };
+    }
+
+-- the two the other way round
+abbrev pub two-swap : (F G : Rope → Rope → Type 0) (m : List ℕ) (l r room : ℕ) → ((u v : Rope) → F u v → G v u) → Two F m l r room → Two G m r l room
+two-swap F G m l r room turn x =
+    record { u = x .v; v = x .u; rest = x .rest; fit = turn (x .u) (x .v) (x .fit); have = swap-have m _ _ (x .rest) (x .have); few = x .few }
+
+pub fit-swap : (u v : Rope) → Fit u v → Fit v u
+fit-swap u v f = record { left = f .right; right = f .left; some-left = f .some-right; some-right = f .some-left; few = omega (arith, f .few) }
+
+pub after-most : (m m′ : List ℕ) (d : Option Ref) (t : Rope) (rest : List Item) (most most′ n limit limit′ : ℕ) → most ≤ most′ → limit ≤ limit′ → After m m′ d t rest most n limit → After m m′ d t rest most′ n limit′
+after-most m m′ d t rest most most′ n limit limit′ le low a = record { have = a .have; full = λ e. omega (arith, a .full e); cost = omega (arith, a .cost) }
+
+pub node-left : (m m′ : List ℕ) (l r : ℕ) (d : Option Ref) (n n′ : ℕ) → Joins Fit node-of (λ _ _. 37) m m′ r l 0 d n n′ → Joins Fit (λ a b. node-of b a) (λ _ _. 37) m m′ l r 0 d n n′
+node-left m m′ l r d n n′ j =
+    record {
+      runs = λ x.
+          after-most m m′ d (node-of (x .v) (x .u)) (x .rest) _ _ n′ _ _ (omega arith) (omega arith) (j .runs (two-swap Fit Fit m l r 0 fit-swap x));
+    }
+
+-- both are there
+abbrev pub couple-two : (m : List ℕ) (a b : Ref) → Couple m (Some a) (Some b) → Two Fit m (a .0) (b .0) 0
+couple-two m a b x = record { u = x .u; v = x .v; rest = x .rest; fit = x .fit; have = x .have; few = omega (arith, x .few) }
+
+pub couples-both : (f : Rope → Rope → Rope) (m m′ : List ℕ) (a b : Ref) (d : Option Ref) (n n′ : ℕ) → Joins Fit f (λ _ _. 37) m m′ (a .0) (b .0) 0 d n n′ → Couples f m m′ (Some a) (Some b) d n n′
+couples-both f m m′ a b d n n′ j =
+    record { runs = λ x. after-most m m′ d (f (x .u) (x .v)) (x .rest) _ _ n′ _ _ (x .fits) (omega arith) (j .runs (couple-two m a b x)) }
+
+-- one of them is not
+pub couples-left : (f : Rope → Rope → Rope) (m m′ : List ℕ) (a : Ref) (n n′ : ℕ) → Released m m′ (a .0) → n′ ≤ n + 5 → Couples f m m′ (Some a) None None n n′
+couples-left f m m′ a n n′ gone le =
+    record { runs = λ x. record { have = gone .have (code (x .u)) (x .rest) (x .have); full = λ _. x .no-right refl; cost = omega arith } }
+
+pub couples-right : (f : Rope → Rope → Rope) (m m′ : List ℕ) (b : Ref) (n n′ : ℕ) → Released m m′ (b .0) → n′ ≤ n + 5 → Couples f m m′ None (Some b) None n n′
+couples-right f m m′ b n n′ gone le =
+    record { runs = λ x. record { have = gone .have (code (x .v)) (x .rest) (x .have); full = λ _. x .no-left refl; cost = omega arith } }
+
+-- a leaf has no children
+pub leaf-making : (m : List ℕ) → Free m → Making m 0 0
+leaf-making m x =
+    record { left = none; right = none; rest = x .rest; have = record { sound = sound-some m _ (sound-some m _ (x .have .sound)); stand = (refl, (refl, x .have .stand)) } }
+
+pub leaf-placed : (m m′ b w : List ℕ) (d : Option Ref) (n n′ : ℕ) → w ≡ leaf-data b → Placed m m′ 0 0 w d n n′ → Leafed m m′ b d n n′
+leaf-placed m m′ b w d n n′ is placed =
+    record {
+      runs = λ x.
+          record {
+            have = subst (λ z. Have m′ (opt d (cell-of none none z) (x .rest))) is
+                (placed .have none none (x .rest) (record { sound = sound-some m _ (sound-some m _ (x .have .sound)); stand = (refl, (refl, x .have .stand)) }));
+            full = λ e. full-capacity m (x .rest) (all-nodes (x .rest)) (placed .full e) (x .have) (omega arith);
             cost = omega (arith, placed .cost);
           };
     }

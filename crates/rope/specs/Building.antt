@@ -11,7 +11,7 @@ use Rattle.cells.specs.Tree.{Tree}
 use Rattle.cells.specs.Tree.{node as cell-of}
 use Rattle.cells.specs.Have.{Item, item, Have, opt, all-nodes}
 use Rattle.cells.specs.Steps.{Full}
-use Rattle.ropes.specs.Rope.{Rope, size, height, cells, Whole}
+use Rattle.ropes.specs.Rope.{Rope, leaf, size, height, cells, Whole}
 use Rattle.rope.specs.Coded.{code}
 
 -- how many cells a row of so many words has room for, the header's 8 among them
@@ -40,7 +40,7 @@ pub record Two (F : Rope → Rope → Type 0) (m : List ℕ) (l r room : ℕ) : 
 
 -- of two ropes of which F holds f made one
 pub record Joins (F : Rope → Rope → Type 0) (f : Rope → Rope → Rope) (price : Rope → Rope → ℕ) (m m′ : List ℕ) (l r room : ℕ) (d : Option Ref) (before after : ℕ) : Type 0 where
-  pub runs : (x : Two F m l r room) → After m m′ d (f (x .u) (x .v)) (x .rest) (cells (x .u) + cells (x .v) + all-nodes (x .rest) + 1) after (before + price (x .u) (x .v))
+  pub runs : (x : Two F m l r room) → After m m′ d (f (x .u) (x .v)) (x .rest) (cells (x .u) + cells (x .v) + all-nodes (x .rest)) after (before + price (x .u) (x .v))
 
 -- two ropes that are not empty and may become one
 pub record Fit (u v : Rope) : Type 0 where
@@ -55,3 +55,29 @@ pub record Placed (m m′ : List ℕ) (l r : ℕ) (w : List ℕ) (d : Option Ref
   pub have : (u v : Tree) (rest : List Item) → Have m (item l u ∷ (item r v ∷ rest)) → Have m′ (opt d (cell-of u v w) rest)
   pub full : d ≡ None → Full m
   pub cost : after ≤ before + 31 + giving-up d
+
+-- Two ropes that may become the children of a node were made, or either was let go. The row then has no room for more than `most` cells.
+pub record Couple (m : List ℕ) (l r : Option Ref) : Type 0 where
+  pub u : Rope
+  pub v : Rope
+  pub rest : List Item
+  pub most : ℕ
+  pub fit : Fit u v
+  pub have : Have m (opt l (code u) (opt r (code v) rest))
+  pub no-left : l ≡ None → capacity (length m) ≤ 8 + most
+  pub no-right : r ≡ None → capacity (length m) ≤ 8 + most
+  pub fits : cells u + cells v + all-nodes rest ≤ most
+  pub few : length rest < 2147483640
+
+-- of the two, f made one
+pub record Couples (f : Rope → Rope → Rope) (m m′ : List ℕ) (l r d : Option Ref) (before after : ℕ) : Type 0 where
+  pub runs : (x : Couple m l r) → After m m′ d (f (x .u) (x .v)) (x .rest) (x .most) after (before + 37)
+
+-- nothing is taken over
+pub record Free (m : List ℕ) : Type 0 where
+  pub rest : List Item
+  pub have : Have m rest
+
+-- from m to m′ a leaf of these bytes was made, or there was no room
+pub record Leafed (m m′ : List ℕ) (b : List ℕ) (d : Option Ref) (before after : ℕ) : Type 0 where
+  pub runs : (x : Free m) → After m m′ d (leaf b) (x .rest) (all-nodes (x .rest)) after (before + 31)

@@ -1,4 +1,5 @@
 pub mod Packed
 pub mod Coded
 pub mod Lending
+pub mod Sided
 pub mod Building

@@ -2,6 +2,7 @@
 mod making;
 mod packed;
 mod reading;
+mod sided;
 mod sums;
 
 pub use sums::Bytes;

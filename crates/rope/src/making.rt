@@ -3,13 +3,17 @@ ghost use mathlib.Core.Path.{_≡_};
 ghost use Prim.Native.Nat.{ℕ, _+_, _<_, _≤_};
 ghost use lib.ListN.{length};
 ghost use Rattle.cells.specs.Steps.{Kept, Making};
-ghost use Rattle.ropes.specs.Rope.{Rope};
+ghost use Rattle.ropes.specs.Rope.{Rope, Octets};
 ghost use Rattle.ropes.specs.Rope.{node as node-of};
 ghost use Rattle.ropes.specs.Layout.{node-data as data-of-node};
-ghost use Rattle.rope.specs.Building.{Two, Joins, Fit, Placed};
+ghost use Rattle.rope.specs.Sided.{node-on};
+ghost use Rattle.rope.specs.Building.{Two, Joins, Fit, Placed, Couple, Couples, Free, Leafed};
 use crate::packed::node_data;
+use crate::packed::pack;
 use crate::reading::summary_of;
+use crate::sided::Side;
 use cells::Data;
+use cells::NONE;
 use cells::Ref;
 use cells::alloc;
 use cells::release;
@@ -51,4 +55,52 @@ pub fn node<W: Words>(words: &mut W, left: Ref, right: Ref) -> Option<Ref>
 {
     let data = data_of(words, left, right);
     place(words, left, right, data)
+}
+
+/// A node of two ropes, of which the second is on this side.
+pub fn node_on<W: Words>(words: &mut W, side: Side, first: Ref, second: Ref) -> Option<Ref>
+    requires { ⌜ Two Fit (row (now words)) (first .0) (second .0) 0 ⌝ }
+    ensures joins { λ d. ⌜ Joins Fit (node-on side) (λ _ _. 37) (row (now (words .entry))) (row (now (words .exit))) (first .0) (second .0) 0 d (touched (now (words .entry))) (touched (now (words .exit))) ⌝ }
+    ensures kept { λ _. ⌜ Kept (row (now (words .entry))) (row (now (words .exit))) ⌝ }
+{
+    match side {
+        Side::Right => node(words, first, second),
+        Side::Left => node(words, second, first),
+    }
+}
+
+/// A node of two ropes where both are there; else the one that is there is let go.
+pub fn both_on<W: Words>(
+    words: &mut W,
+    side: Side,
+    first: Option<Ref>,
+    second: Option<Ref>,
+) -> Option<Ref>
+    requires { ⌜ Couple (row (now words)) first second ⌝ }
+    ensures couples { λ d. ⌜ Couples (node-on side) (row (now (words .entry))) (row (now (words .exit))) first second d (touched (now (words .entry))) (touched (now (words .exit))) ⌝ }
+    ensures kept { λ _. ⌜ Kept (row (now (words .entry))) (row (now (words .exit))) ⌝ }
+{
+    match (first, second) {
+        (Some(a), Some(b)) => node_on(words, side, a, b),
+        (Some(a), None) => {
+            release(words, a);
+            None
+        }
+        (None, Some(b)) => {
+            release(words, b);
+            None
+        }
+        (None, None) => None,
+    }
+}
+
+/// A leaf of these bytes.
+pub fn leaf<W: Words>(words: &mut W, bytes: &[u8]) -> Option<Ref>
+    requires heap { ⌜ Free (row (now words)) ⌝ }
+    requires fits { ⌜ length (now bytes) ≤ 48 ⌝ }
+    ensures leafed { λ d. ⌜ Leafed (row (now (words .entry))) (row (now (words .exit))) (now (bytes .entry)) d (touched (now (words .entry))) (touched (now (words .exit))) ⌝ }
+    ensures octets { λ _. ⌜ Octets (now (bytes .entry)) ⌝ }
+    ensures kept { λ _. ⌜ Kept (row (now (words .entry))) (row (now (words .exit))) ⌝ }
+{
+    place(words, NONE, NONE, pack(bytes))
 }
