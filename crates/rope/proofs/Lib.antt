@@ -2,3 +2,4 @@ pub mod Packings
 pub mod Codes
 pub mod Holds
 pub mod Makings
+pub mod Partings

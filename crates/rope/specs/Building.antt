@@ -12,7 +12,9 @@ use Rattle.cells.specs.Tree.{node as cell-of}
 use Rattle.cells.specs.Have.{Item, item, Have, opt, all-nodes}
 use Rattle.cells.specs.Steps.{Full}
 use Rattle.ropes.specs.Rope.{Rope, leaf, size, height, cells, Whole}
+use Rattle.rope.specs.declared.sided.Side.{Side}
 use Rattle.rope.specs.Coded.{code}
+use Rattle.rope.specs.Sided.{node-on}
 
 -- how many cells a row of so many words has room for, the header's 8 among them
 abbrev pub capacity : ℕ → ℕ
@@ -81,3 +83,11 @@ pub record Free (m : List ℕ) : Type 0 where
 -- from m to m′ a leaf of these bytes was made, or there was no room
 pub record Leafed (m m′ : List ℕ) (b : List ℕ) (d : Option Ref) (before after : ℕ) : Type 0 where
   pub runs : (x : Free m) → After m m′ d (leaf b) (x .rest) (all-nodes (x .rest)) after (before + 31)
+
+-- from m to m′ the node p was let go, and its children l and r are held in its place
+pub record Parted (m m′ : List ℕ) (p l r : ℕ) : Type 0 where
+  pub have : (u v : Tree) (w : List ℕ) (rest : List Item) → Have m (item p (cell-of u v w) ∷ rest) → Have m′ (item l u ∷ (item r v ∷ rest))
+
+-- the same of a rope's node, by side
+pub record Halved (side : Side) (m m′ : List ℕ) (p a b : ℕ) : Type 0 where
+  pub have : (u v : Rope) (rest : List Item) → Have m (item p (code (node-on side u v)) ∷ rest) → Have m′ (item a (code u) ∷ (item b (code v) ∷ rest))

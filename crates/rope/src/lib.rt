@@ -1,6 +1,7 @@
 //! Ropes of bytes in a heap of cells.
 mod making;
 mod packed;
+mod parting;
 mod reading;
 mod sided;
 mod sums;
