@@ -10,9 +10,14 @@ use Rattle.cells.specs.declared.cell.Ref.{Ref}
 use Rattle.cells.specs.Layout.{taken}
 use Rattle.cells.specs.Tree.{Tree}
 use Rattle.cells.specs.Have.{Item, item, Have, Lent, opt, all-nodes}
-use Rattle.cells.specs.Steps.{Full}
+use Rattle.cells.specs.Steps.{Full, Opening}
 use Rattle.cells.proofs.Held.{reorder, lend}
-use Rattle.ropes.specs.Rope.{Rope, size, height, Whole}
+use Rattle.ropes.specs.Rope.{Rope, size, height, cells, Whole}
+use Rattle.ropes.specs.Layout.{node-data}
+use Rattle.rope.specs.declared.sided.Side.{Side}
+use Rattle.rope.specs.declared.sided.Side.the-variants.{Left, Right}
+use Rattle.rope.specs.Sided.{node-on}
+use Rattle.rope.proofs.Codes.{nodes-code}
 use Rattle.rope.specs.Coded.{code}
 use Rattle.rope.specs.Lending.{Lends, LendsSome, LendsNode}
 use Rattle.rope.specs.Building.{capacity}
@@ -41,3 +46,26 @@ lends-some m p t xs whole few some h = record { lends = lends m p t xs whole few
 -- where there is no room, what is held has as many cells as there is room for
 pub full-capacity : (m : List ℕ) (xs : List Item) (n : ℕ) → Full m → Have m xs → all-nodes xs ≤ n → capacity (length m) ≤ 8 + n
 full-capacity m xs n full h le = omega (arith, full .few xs h, full .no-room)
+
+-- a held node may be taken apart
+pub opening-on : (side : Side) (m : List ℕ) (p : ℕ) (a b : Rope) (xs : List Item) → Have m (item p (code (node-on side a b)) ∷ xs) → length xs < 2147483640 → Opening m p
+opening-on Right m p a b xs h few = record { left = code a; right = code b; word = node-data a b; rest = xs; have = h; few = few }
+opening-on Left m p a b xs h few = record { left = code b; right = code a; word = node-data b a; rest = xs; have = h; few = few }
+
+-- what may be there goes behind the next two
+pub opt-back : (m : List ℕ) (d : Option Ref) (t : Tree) (x y : Item) (xs : List Item) → Have m (opt d t (x ∷ (y ∷ xs))) → Have m (x ∷ (y ∷ opt d t xs))
+opt-back m None t x y xs h = h
+opt-back m (Some d) t x y xs h = back-have m (item (d .0) t) x y xs h
+
+pub opt-swap : (m : List ℕ) (d e : Option Ref) (t u : Tree) (xs : List Item) → Have m (opt d t (opt e u xs)) → Have m (opt e u (opt d t xs))
+opt-swap m None e t u xs h = h
+opt-swap m (Some d) None t u xs h = h
+opt-swap m (Some d) (Some e) t u xs h = swap-have m (item (d .0) t) (item (e .0) u) xs h
+
+pub length-opt : (d : Option Ref) (t : Tree) (xs : List Item) → length (opt d t xs) ≤ length xs + 1
+length-opt None t xs = omega arith
+length-opt (Some d) t xs = omega arith
+
+pub nodes-opt : (d : Option Ref) (t : Rope) (xs : List Item) → all-nodes (opt d (code t) xs) ≤ cells t + all-nodes xs
+nodes-opt None t xs = omega arith
+nodes-opt (Some d) t xs = omega (arith, nodes-code t)

@@ -3,3 +3,5 @@ pub mod Codes
 pub mod Holds
 pub mod Makings
 pub mod Partings
+pub mod Sides
+pub mod Doubles

@@ -21,7 +21,7 @@ use Rattle.ropes.proofs.Sums.{sum-small}
 use Rattle.rope.specs.Coded.{code}
 use Rattle.rope.specs.Packed.{Addable, NodeData}
 use Rattle.rope.specs.Lending.{LendsSome, SummaryIs}
-use Rattle.rope.specs.Building.{Two, Joins, After, Fit, Placed, Couple, Couples, Free, Leafed}
+use Rattle.rope.specs.Building.{Two, Joins, After, Fit, Placed, Couple, coupling, Couples, Free, Leafed, giving-up}
 use Rattle.rope.specs.declared.reading.Summary.{Summary}
 use Rattle.rope.proofs.Codes.{nodes-code}
 use Rattle.rope.proofs.Holds.{swap-have, have-same, lends-some, full-capacity}
@@ -51,14 +51,14 @@ children-data u v a b top w p q is made = made .is u v (omega (arith, p .high, q
 
 -- data that were read, and a cell with them
 pub node-placed : (m m1 m′ : List ℕ) (l r : ℕ) (w : List ℕ) (d : Option Ref) (n n1 n′ : ℕ) → m1 ≡ m → ((x : Two Fit m l r 0) → w ≡ node-data (x .u) (x .v)) → n1 ≤ n + 6
-    → Placed m1 m′ l r w d n1 n′ → Joins Fit node-of (λ _ _. 37) m m′ l r 0 d n n′
+    → Placed m1 m′ l r w d n1 n′ → Joins Fit node-of (λ _ _. 37) 0 m m′ l r 0 d n n′
 node-placed m m1 m′ l r w d n n1 n′ same is reads placed =
     record {
       runs = λ x.
           let h = have-same m m1 (item l (code (x .u)) ∷ (item r (code (x .v)) ∷ x .rest)) same (x .have) in
           record {
             have = subst (λ z. Have m′ (opt d (cell-of (code (x .u)) (code (x .v)) z) (x .rest))) (is x) (placed .have (code (x .u)) (code (x .v)) (x .rest) h);
-            full = λ e. omega (arith, ap length same, full-capacity m1 _ (cells (x .u) + cells (x .v) + all-nodes (x .rest)) (placed .full e) h (omega (arith, nodes-code (x .u), nodes-code (x .v))));
+            full = λ e. omega (arith, ap length same, full-capacity m1 _ (cells (x .u) + cells (x .v) + all-nodes (x .rest) + 0) (placed .full e) h (omega (arith, nodes-code (x .u), nodes-code (x .v))));
             cost = omega (arith, placed .cost);
           };
     }
@@ -74,20 +74,26 @@ fit-swap u v f = record { left = f .right; right = f .left; some-left = f .some-
 pub after-most : (m m′ : List ℕ) (d : Option Ref) (t : Rope) (rest : List Item) (most most′ n limit limit′ : ℕ) → most ≤ most′ → limit ≤ limit′ → After m m′ d t rest most n limit → After m m′ d t rest most′ n limit′
 after-most m m′ d t rest most most′ n limit limit′ le low a = record { have = a .have; full = λ e. omega (arith, a .full e); cost = omega (arith, a .cost) }
 
-pub node-left : (m m′ : List ℕ) (l r : ℕ) (d : Option Ref) (n n′ : ℕ) → Joins Fit node-of (λ _ _. 37) m m′ r l 0 d n n′ → Joins Fit (λ a b. node-of b a) (λ _ _. 37) m m′ l r 0 d n n′
+pub node-left : (m m′ : List ℕ) (l r : ℕ) (d : Option Ref) (n n′ : ℕ) → Joins Fit node-of (λ _ _. 37) 0 m m′ r l 0 d n n′ → Joins Fit (λ a b. node-of b a) (λ _ _. 37) 0 m m′ l r 0 d n n′
 node-left m m′ l r d n n′ j =
     record {
       runs = λ x.
           after-most m m′ d (node-of (x .v) (x .u)) (x .rest) _ _ n′ _ _ (omega arith) (omega arith) (j .runs (two-swap Fit Fit m l r 0 fit-swap x));
     }
 
+pub coupling-few : (l r : Option Ref) → coupling l r + (giving-up l + giving-up r) ≤ 37
+coupling-few None None = omega arith
+coupling-few None (Some q) = omega arith
+coupling-few (Some p) None = omega arith
+coupling-few (Some p) (Some q) = omega arith
+
 -- both are there
 abbrev pub couple-two : (m : List ℕ) (a b : Ref) → Couple m (Some a) (Some b) → Two Fit m (a .0) (b .0) 0
 couple-two m a b x = record { u = x .u; v = x .v; rest = x .rest; fit = x .fit; have = x .have; few = omega (arith, x .few) }
 
-pub couples-both : (f : Rope → Rope → Rope) (m m′ : List ℕ) (a b : Ref) (d : Option Ref) (n n′ : ℕ) → Joins Fit f (λ _ _. 37) m m′ (a .0) (b .0) 0 d n n′ → Couples f m m′ (Some a) (Some b) d n n′
+pub couples-both : (f : Rope → Rope → Rope) (m m′ : List ℕ) (a b : Ref) (d : Option Ref) (n n′ : ℕ) → Joins Fit f (λ _ _. 37) 0 m m′ (a .0) (b .0) 0 d n n′ → Couples f m m′ (Some a) (Some b) d n n′
 couples-both f m m′ a b d n n′ j =
-    record { runs = λ x. after-most m m′ d (f (x .u) (x .v)) (x .rest) _ _ n′ _ _ (x .fits) (omega arith) (j .runs (couple-two m a b x)) }
+    record { runs = λ x. after-most m m′ d (f (x .u) (x .v)) (x .rest) _ _ n′ _ _ (omega (arith, x .fits)) (omega arith) (j .runs (couple-two m a b x)) }
 
 -- one of them is not
 pub couples-left : (f : Rope → Rope → Rope) (m m′ : List ℕ) (a : Ref) (n n′ : ℕ) → Released m m′ (a .0) → n′ ≤ n + 5 → Couples f m m′ (Some a) None None n n′

@@ -11,7 +11,7 @@ use Rattle.cells.specs.Tree.{Tree}
 use Rattle.cells.specs.Tree.{node as cell-of}
 use Rattle.cells.specs.Have.{Item, item, Have, opt, all-nodes}
 use Rattle.cells.specs.Steps.{Full}
-use Rattle.ropes.specs.Rope.{Rope, leaf, size, height, cells, Whole}
+use Rattle.ropes.specs.Rope.{Rope, leaf, size, height, cells, Inner, Whole}
 use Rattle.rope.specs.declared.sided.Side.{Side}
 use Rattle.rope.specs.Coded.{code}
 use Rattle.rope.specs.Sided.{node-on}
@@ -40,9 +40,9 @@ pub record Two (F : Rope → Rope → Type 0) (m : List ℕ) (l r room : ℕ) : 
   pub have : Have m (item l (code u) ∷ (item r (code v) ∷ rest))
   pub few : length rest + room < 2147483640
 
--- of two ropes of which F holds f made one
-pub record Joins (F : Rope → Rope → Type 0) (f : Rope → Rope → Rope) (price : Rope → Rope → ℕ) (m m′ : List ℕ) (l r room : ℕ) (d : Option Ref) (before after : ℕ) : Type 0 where
-  pub runs : (x : Two F m l r room) → After m m′ d (f (x .u) (x .v)) (x .rest) (cells (x .u) + cells (x .v) + all-nodes (x .rest)) after (before + price (x .u) (x .v))
+-- Of two ropes of which F holds f made one. On the way there were at most so many more cells than theirs.
+pub record Joins (F : Rope → Rope → Type 0) (f : Rope → Rope → Rope) (price : Rope → Rope → ℕ) (more : ℕ) (m m′ : List ℕ) (l r room : ℕ) (d : Option Ref) (before after : ℕ) : Type 0 where
+  pub runs : (x : Two F m l r room) → After m m′ d (f (x .u) (x .v)) (x .rest) (cells (x .u) + cells (x .v) + all-nodes (x .rest) + more) after (before + price (x .u) (x .v))
 
 -- two ropes that are not empty and may become one
 pub record Fit (u v : Rope) : Type 0 where
@@ -71,9 +71,16 @@ pub record Couple (m : List ℕ) (l r : Option Ref) : Type 0 where
   pub fits : cells u + cells v + all-nodes rest ≤ most
   pub few : length rest < 2147483640
 
+-- what it costs to make one of two that may not be there
+abbrev pub coupling : Option Ref → Option Ref → ℕ
+coupling None None = 0
+coupling None (Some q) = 5
+coupling (Some p) None = 5
+coupling (Some p) (Some q) = 37
+
 -- of the two, f made one
 pub record Couples (f : Rope → Rope → Rope) (m m′ : List ℕ) (l r d : Option Ref) (before after : ℕ) : Type 0 where
-  pub runs : (x : Couple m l r) → After m m′ d (f (x .u) (x .v)) (x .rest) (x .most) after (before + 37)
+  pub runs : (x : Couple m l r) → After m m′ d (f (x .u) (x .v)) (x .rest) (x .most) after (before + coupling l r)
 
 -- nothing is taken over
 pub record Free (m : List ℕ) : Type 0 where
@@ -91,3 +98,39 @@ pub record Parted (m m′ : List ℕ) (p l r : ℕ) : Type 0 where
 -- the same of a rope's node, by side
 pub record Halved (side : Side) (m m′ : List ℕ) (p a b : ℕ) : Type 0 where
   pub have : (u v : Rope) (rest : List Item) → Have m (item p (code (node-on side u v)) ∷ rest) → Have m′ (item a (code u) ∷ (item b (code v) ∷ rest))
+
+-- three parts, of which the second is the highest
+pub record Peak (u v w : Rope) : Type 0 where
+  pub first : Inner u
+  pub second : Inner v
+  pub third : Inner w
+  pub high : height v ≡ height w + 1
+  pub level : height u ≡ height w
+  pub few : size u + size v + size w < 536870912
+
+pub record Three (m : List ℕ) (a b c room : ℕ) : Type 0 where
+  pub u : Rope
+  pub v : Rope
+  pub w : Rope
+  pub rest : List Item
+  pub fit : Peak u v w
+  pub have : Have m (item a (code u) ∷ (item b (code v) ∷ (item c (code w) ∷ rest)))
+  pub few : length rest + room < 2147483640
+
+pub record Joins3 (f : Rope → Rope → Rope → Rope) (price : ℕ) (m m′ : List ℕ) (a b c room : ℕ) (d : Option Ref) (before after : ℕ) : Type 0 where
+  pub runs : (x : Three m a b c room) → After m m′ d (f (x .u) (x .v) (x .w)) (x .rest) (cells (x .u) + cells (x .v) + cells (x .w) + all-nodes (x .rest) + 1) after (before + price)
+
+-- the second part is too high by one
+pub record Leaning (u v : Rope) : Type 0 where
+  pub first : Inner u
+  pub second : Inner v
+  pub high : height v ≡ height u + 2
+  pub few : size u + size v < 536870912
+
+-- the second part is too high by one at most
+pub record Near (u v : Rope) : Type 0 where
+  pub first : Inner u
+  pub second : Inner v
+  pub low : height u ≤ height v + 1
+  pub high : height v ≤ height u + 2
+  pub few : size u + size v < 536870912

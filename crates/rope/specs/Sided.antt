@@ -1,5 +1,7 @@
 -- Joining on either side. Of a node's two children the second is the one on the side in question.
+use Prim.Native.Nat.{ℕ}
 use Rattle.ropes.specs.Rope.{Rope, node}
+use Rattle.ropes.specs.Costs.{rotations}
 use Rattle.ropes.specs.Join.{rotate-double, rotate-left, rotate-right, balance, merge, append, prepend}
 use Rattle.rope.specs.declared.sided.Side.{Side}
 use Rattle.rope.specs.declared.sided.Side.the-variants.{Left, Right}
@@ -28,3 +30,8 @@ balance-on Left a b = balance b a
 abbrev pub attach : Side → Rope → Rope → Rope
 attach Right host guest = append host guest
 attach Left host guest = prepend guest host
+
+-- 1 where a balance rotates
+abbrev pub rotations-on : Side → Rope → Rope → ℕ
+rotations-on Right a b = rotations a b
+rotations-on Left a b = rotations b a

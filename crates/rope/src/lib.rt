@@ -1,4 +1,5 @@
 //! Ropes of bytes in a heap of cells.
+mod balancing;
 mod making;
 mod packed;
 mod parting;

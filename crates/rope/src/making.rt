@@ -50,7 +50,7 @@ fn data_of<W: Words>(words: &mut W, left: Ref, right: Ref) -> Data
 /// A node of two ropes.
 pub fn node<W: Words>(words: &mut W, left: Ref, right: Ref) -> Option<Ref>
     requires { ⌜ Two Fit (row (now words)) (left .0) (right .0) 0 ⌝ }
-    ensures joins { λ d. ⌜ Joins Fit node-of (λ _ _. 37) (row (now (words .entry))) (row (now (words .exit))) (left .0) (right .0) 0 d (touched (now (words .entry))) (touched (now (words .exit))) ⌝ }
+    ensures joins { λ d. ⌜ Joins Fit node-of (λ _ _. 37) 0 (row (now (words .entry))) (row (now (words .exit))) (left .0) (right .0) 0 d (touched (now (words .entry))) (touched (now (words .exit))) ⌝ }
     ensures kept { λ _. ⌜ Kept (row (now (words .entry))) (row (now (words .exit))) ⌝ }
 {
     let data = data_of(words, left, right);
@@ -60,7 +60,7 @@ pub fn node<W: Words>(words: &mut W, left: Ref, right: Ref) -> Option<Ref>
 /// A node of two ropes, of which the second is on this side.
 pub fn node_on<W: Words>(words: &mut W, side: Side, first: Ref, second: Ref) -> Option<Ref>
     requires { ⌜ Two Fit (row (now words)) (first .0) (second .0) 0 ⌝ }
-    ensures joins { λ d. ⌜ Joins Fit (node-on side) (λ _ _. 37) (row (now (words .entry))) (row (now (words .exit))) (first .0) (second .0) 0 d (touched (now (words .entry))) (touched (now (words .exit))) ⌝ }
+    ensures joins { λ d. ⌜ Joins Fit (node-on side) (λ _ _. 37) 0 (row (now (words .entry))) (row (now (words .exit))) (first .0) (second .0) 0 d (touched (now (words .entry))) (touched (now (words .exit))) ⌝ }
     ensures kept { λ _. ⌜ Kept (row (now (words .entry))) (row (now (words .exit))) ⌝ }
 {
     match side {
