@@ -36,7 +36,7 @@ pub record Parts (side : Side) (m : List ℕ) (a b c : ℕ) : Type 0 where
 pub peak-view : (side : Side) (u v w : Rope) → Peak u v w → View side v
 peak-view side u v w k = view side v (omega (arith, k .high, inner-some w (k .third)))
 
-abbrev pub parts : (side : Side) (m : List ℕ) (a b c : ℕ) → Three m a b c 8 → Parts side m a b c
+abbrev pub parts : (side : Side) (m : List ℕ) (a b c : ℕ) → Three Peak m a b c 8 → Parts side m a b c
 parts side m a b c x =
     let o = peak-view side (x .u) (x .v) (x .w) (x .fit) in
     record {
@@ -119,7 +119,7 @@ module _ (side : Side) (m : List ℕ) (a b c : ℕ) where
               few = omega (arith, x .few);
             }
 
-        pub doubled : (m4 : List ℕ) (f : Option Ref) (n n4 : ℕ) → Couples (node-on side) m3 m4 d e f n3 n4 → n1 ≤ n + 11 → Joins3 (double-on side) 122 m m4 a b c 8 f n n4
+        pub doubled : (m4 : List ℕ) (f : Option Ref) (n n4 : ℕ) → Couples (node-on side) m3 m4 d e f n3 n4 → n1 ≤ n + 11 → Joins3 Peak (double-on side) 122 m m4 a b c 8 f n n4
         doubled m4 f n n4 last cost =
             record {
               runs = λ x.

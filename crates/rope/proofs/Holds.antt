@@ -69,3 +69,7 @@ length-opt (Some d) t xs = omega arith
 pub nodes-opt : (d : Option Ref) (t : Rope) (xs : List Item) → all-nodes (opt d (code t) xs) ≤ cells t + all-nodes xs
 nodes-opt None t xs = omega arith
 nodes-opt (Some d) t xs = omega (arith, nodes-code t)
+
+pub opt-next : (m : List ℕ) (d : Option Ref) (t : Tree) (x : Item) (xs : List Item) → Have m (opt d t (x ∷ xs)) → Have m (x ∷ opt d t xs)
+opt-next m None t x xs h = h
+opt-next m (Some d) t x xs h = swap-have m (item (d .0) t) x xs h

@@ -5,3 +5,4 @@ pub mod Makings
 pub mod Partings
 pub mod Sides
 pub mod Doubles
+pub mod Rotates

@@ -120,3 +120,6 @@ leaf-placed m m′ b w d n n′ is placed =
             cost = omega (arith, placed .cost);
           };
     }
+
+pub some-none : (p : Ref) → Some p ≡ None → ⊥
+some-none p e = let z : _≡_ {A = ℕ} 0 1 = cc in omega arith

@@ -2,7 +2,7 @@
 -- and else nothing is: they are let go.
 use mathlib.Core.Path.{_≡_}
 use mathlib.Core.List.{List, _∷_}
-use Prim.Native.Nat.{ℕ, _+_, _/_, _<_, _≤_, min}
+use Prim.Native.Nat.{ℕ, _+_, _/_, _<_, _≤_, min, max}
 use lib.ListN.{length}
 use Rattle.std.specs.declared.option.Option.{Option}
 use Rattle.std.specs.declared.option.Option.the-variants.{Some, None}
@@ -108,17 +108,27 @@ pub record Peak (u v w : Rope) : Type 0 where
   pub level : height u ≡ height w
   pub few : size u + size v + size w < 536870912
 
-pub record Three (m : List ℕ) (a b c room : ℕ) : Type 0 where
+pub record Three (F : Rope → Rope → Rope → Type 0) (m : List ℕ) (a b c room : ℕ) : Type 0 where
   pub u : Rope
   pub v : Rope
   pub w : Rope
   pub rest : List Item
-  pub fit : Peak u v w
+  pub fit : F u v w
   pub have : Have m (item a (code u) ∷ (item b (code v) ∷ (item c (code w) ∷ rest)))
   pub few : length rest + room < 2147483640
 
-pub record Joins3 (f : Rope → Rope → Rope → Rope) (price : ℕ) (m m′ : List ℕ) (a b c room : ℕ) (d : Option Ref) (before after : ℕ) : Type 0 where
-  pub runs : (x : Three m a b c room) → After m m′ d (f (x .u) (x .v) (x .w)) (x .rest) (cells (x .u) + cells (x .v) + cells (x .w) + all-nodes (x .rest) + 1) after (before + price)
+pub record Joins3 (F : Rope → Rope → Rope → Type 0) (f : Rope → Rope → Rope → Rope) (price : ℕ) (m m′ : List ℕ) (a b c room : ℕ) (d : Option Ref) (before after : ℕ) : Type 0 where
+  pub runs : (x : Three F m a b c room) → After m m′ d (f (x .u) (x .v) (x .w)) (x .rest) (cells (x .u) + cells (x .v) + cells (x .w) + all-nodes (x .rest) + 1) after (before + price)
+
+-- the second and the third part are the children of a node that is too high by one beside the first
+pub record Tilted (u v w : Rope) : Type 0 where
+  pub first : Inner u
+  pub second : Inner v
+  pub third : Inner w
+  pub low : height v ≤ height w + 1
+  pub high : height w ≤ height v + 1
+  pub tall : max (height v) (height w) ≡ height u + 1
+  pub few : size u + size v + size w < 536870912
 
 -- the second part is too high by one
 pub record Leaning (u v : Rope) : Type 0 where

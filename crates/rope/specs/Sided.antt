@@ -18,6 +18,9 @@ abbrev pub rotate-on : Side → Rope → Rope → Rope
 rotate-on Right a b = rotate-left a b
 rotate-on Left a b = rotate-right b a
 
+abbrev pub rotate-parts : Side → Rope → Rope → Rope → Rope
+rotate-parts s a b c = rotate-on s a (node-on s b c)
+
 abbrev pub double-on : Side → Rope → Rope → Rope → Rope
 double-on Right a b c = rotate-double a b c
 double-on Left a b c = rotate-double c b a

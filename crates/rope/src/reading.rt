@@ -25,6 +25,13 @@ pub struct Shape {
     pub small: bool,
 }
 
+/// The shapes of two ropes.
+#[derive(Clone, Copy)]
+pub struct Shapes {
+    pub first: Shape,
+    pub second: Shape,
+}
+
 /// What a node says of a child.
 #[derive(Clone, Copy)]
 pub struct Summary {
@@ -61,6 +68,20 @@ pub fn shape_of<W: Words>(words: &mut W, p: Ref) -> Shape
             small: tag % 64 < LEAF_MIN,
         }
     }
+}
+
+/// The shapes of two ropes.
+pub fn shapes_of<W: Words>(words: &mut W, p: Ref, q: Ref) -> Shapes
+    requires first { ⌜ LendsSome (row (now words)) (p .0) ⌝ }
+    requires second { ⌜ LendsSome (row (now words)) (q .0) ⌝ }
+    ensures first { λ r. ⌜ ((x : LendsSome (row (now (words .entry))) (p .0)) → ShapeIs (x .lends .rope) (r .first)) ⌝ }
+    ensures second { λ r. ⌜ ((x : LendsSome (row (now (words .entry))) (q .0)) → ShapeIs (x .lends .rope) (r .second)) ⌝ }
+    ensures same { λ _. ⌜ row (now (words .exit)) ≡ row (now (words .entry)) ⌝ }
+    ensures touches { λ _. ⌜ touched (now (words .exit)) ≤ touched (now (words .entry)) + 2 ⌝ }
+{
+    let first = shape_of(words, p);
+    let second = shape_of(words, q);
+    Shapes { first, second }
 }
 
 /// The sums of the node `p`.
