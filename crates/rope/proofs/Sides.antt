@@ -5,7 +5,7 @@ use mathlib.Core.List.{List}
 use Prim.Native.Nat.{ℕ, _+_, _-_, _<_, _≤_, max}
 use native.Mathlib.Omega.{arith}
 use lib.Dec.{leb, ltb}
-use Rattle.std.proofs.shelf.Tests.{le-leb, lt-leb, le-ltb, lt-ltb, cond-true, cond-false}
+use Rattle.std.proofs.shelf.Tests.{le-leb, lt-leb, le-ltb, lt-ltb, cond-true, cond-false, or-left, or-right}
 use Rattle.ropes.specs.Rope.{Rope, empty, leaf, node, bytes, size, height, cells, Inner, Whole}
 use Rattle.ropes.specs.Join.{rotate-double, rotate-left, rotate-right, balance, merge, fits-beside, append, prepend}
 use Rattle.ropes.specs.Costs.{rotations, steps}
@@ -126,3 +126,8 @@ attach-rotations Left a b x i w some le e = prepend-rotations x b a w i some le 
 pub attach-steps : (s : Side) (a b x : Rope) → Inner (node-on s a b) → fits-beside (height (node-on s a b)) x ≡ false → steps (height b) x + 1 ≤ steps (height (node-on s a b)) x
 attach-steps Right a b x i e = steps-down a b b x i (omega arith) e
 attach-steps Left a b x i e = steps-down b a b x i (omega arith) e
+
+pub rotations-on-one : (s : Side) (a b : Rope) → height a + 1 < height b → rotations-on s a b ≡ 1
+unfolding rotations
+rotations-on-one Right a b h = cond-true _ _ _ (or-right _ _ (lt-ltb _ _ h))
+rotations-on-one Left a b h = cond-true _ _ _ (or-left _ _ (lt-ltb _ _ h))

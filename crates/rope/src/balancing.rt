@@ -38,3 +38,27 @@ fn rotate_parts<W: Words>(words: &mut W, side: Side, a: Ref, b: Ref, c: Ref) -> 
         rotate_double(words, side, a, b, c)
     }
 }
+
+/// A part and one that is too high beside it, rotated.
+fn rotate<W: Words>(words: &mut W, side: Side, a: Ref, b: Ref) -> Option<Ref>
+    requires { ⌜ Two Leaning (row (now words)) (a .0) (b .0) 16 ⌝ }
+    ensures joins { λ d. ⌜ Joins Leaning (rotate-on side) (λ _ _. 135) 1 (row (now (words .entry))) (row (now (words .exit))) (a .0) (b .0) 16 d (touched (now (words .entry))) (touched (now (words .exit))) ⌝ }
+    ensures kept { λ _. ⌜ Kept (row (now (words .entry))) (row (now (words .exit))) ⌝ }
+{
+    let n = halve(words, side, b);
+    rotate_parts(words, side, a, n.first, n.second)
+}
+
+/// A node of two parts, of which the second may be too high, or what it is rotated to.
+pub fn balance<W: Words>(words: &mut W, side: Side, a: Ref, b: Ref) -> Option<Ref>
+    requires { ⌜ Two Near (row (now words)) (a .0) (b .0) 16 ⌝ }
+    ensures joins { λ d. ⌜ Joins Near (balance-on side) (λ u v. 39 + 98 * rotations-on side u v) 1 (row (now (words .entry))) (row (now (words .exit))) (a .0) (b .0) 16 d (touched (now (words .entry))) (touched (now (words .exit))) ⌝ }
+    ensures kept { λ _. ⌜ Kept (row (now (words .entry))) (row (now (words .exit))) ⌝ }
+{
+    let s = shapes_of(words, a, b);
+    if s.first.height + 1 < s.second.height {
+        rotate(words, side, a, b)
+    } else {
+        node_on(words, side, a, b)
+    }
+}
