@@ -6,3 +6,4 @@ pub mod Partings
 pub mod Sides
 pub mod Doubles
 pub mod Rotates
+pub mod Leavings
