@@ -7,3 +7,4 @@ pub mod Sides
 pub mod Doubles
 pub mod Rotates
 pub mod Leavings
+pub mod Merges

@@ -105,7 +105,7 @@ couples-right f m m′ b n n′ gone le =
     record { runs = λ x. record { have = gone .have (code (x .v)) (x .rest) (x .have); full = λ _. x .no-left refl; cost = omega arith } }
 
 -- a leaf has no children
-pub leaf-making : (m : List ℕ) → Free m → Making m 0 0
+pub leaf-making : (m : List ℕ) → Free m 0 → Making m 0 0
 leaf-making m x =
     record { left = none; right = none; rest = x .rest; have = record { sound = sound-some m _ (sound-some m _ (x .have .sound)); stand = (refl, (refl, x .have .stand)) } }
 

@@ -3,7 +3,9 @@
 use mathlib.Core.Path.{_≡_}
 use mathlib.Core.List.{List, _∷_}
 use Prim.Native.Nat.{ℕ, _+_, _/_, _<_, _≤_, min, max}
-use lib.ListN.{length}
+use mathlib.Core.Bool.{cond}
+use lib.Dec.{leb}
+use lib.ListN.{length, take, drop}
 use Rattle.std.specs.declared.option.Option.{Option}
 use Rattle.std.specs.declared.option.Option.the-variants.{Some, None}
 use Rattle.cells.specs.declared.cell.Ref.{Ref}
@@ -11,7 +13,8 @@ use Rattle.cells.specs.Tree.{Tree}
 use Rattle.cells.specs.Tree.{node as cell-of}
 use Rattle.cells.specs.Have.{Item, item, Have, opt, all-nodes}
 use Rattle.cells.specs.Steps.{Full}
-use Rattle.ropes.specs.Rope.{Rope, leaf, size, height, cells, Inner, Whole}
+use Rattle.ropes.specs.Rope.{Rope, leaf, leaf-max, size, height, cells, Inner, Whole}
+use Rattle.ropes.specs.Rope.{node as node-of}
 use Rattle.rope.specs.declared.sided.Side.{Side}
 use Rattle.rope.specs.Coded.{code}
 use Rattle.rope.specs.Sided.{node-on}
@@ -83,13 +86,14 @@ pub record Couples (f : Rope → Rope → Rope) (m m′ : List ℕ) (l r d : Opt
   pub runs : (x : Couple m l r) → After m m′ d (f (x .u) (x .v)) (x .rest) (x .most) after (before + coupling l r)
 
 -- nothing is taken over
-pub record Free (m : List ℕ) : Type 0 where
+pub record Free (m : List ℕ) (room : ℕ) : Type 0 where
   pub rest : List Item
   pub have : Have m rest
+  pub few : length rest + room < 2147483640
 
 -- from m to m′ a leaf of these bytes was made, or there was no room
 pub record Leafed (m m′ : List ℕ) (b : List ℕ) (d : Option Ref) (before after : ℕ) : Type 0 where
-  pub runs : (x : Free m) → After m m′ d (leaf b) (x .rest) (all-nodes (x .rest)) after (before + 31)
+  pub runs : (x : Free m 0) → After m m′ d (leaf b) (x .rest) (all-nodes (x .rest)) after (before + 31)
 
 -- from m to m′ the node p was let go, and its children l and r are held in its place
 pub record Parted (m m′ : List ℕ) (p l r : ℕ) : Type 0 where
@@ -144,3 +148,17 @@ pub record Near (u v : Rope) : Type 0 where
   pub low : height u ≤ height v + 1
   pub high : height v ≤ height u + 2
   pub few : size u + size v < 536870912
+
+-- two leaves
+pub record TwoLeaves (u v : Rope) : Type 0 where
+  pub fit : Fit u v
+  pub one-left : height u ≡ 1
+  pub one-right : height v ≡ 1
+
+-- bytes of one leaf or two, as leaves
+unfoldable pub spread : List ℕ → Rope
+spread b = cond (leb (length b) leaf-max) (leaf b) (node-of (leaf (take (length b / 2) b)) (leaf (drop (length b / 2) b)))
+
+-- from m to m′ one leaf or two of these bytes were made, or there was no room
+pub record Spreads (m m′ : List ℕ) (b : List ℕ) (d : Option Ref) (before after : ℕ) : Type 0 where
+  pub runs : (x : Free m 2) → After m m′ d (spread b) (x .rest) (all-nodes (x .rest) + 2) after (before + 99)

@@ -40,7 +40,7 @@ fn write_leaf(into: &mut [u8], at: usize, leaf: &Leaf)
 }
 
 /// The bytes of two leaves, one behind the other.
-fn joined(a: Leaf, b: Leaf) -> [u8; 96]
+pub fn joined(a: Leaf, b: Leaf) -> [u8; 96]
     requires { ⌜ a .len ≤ 48 ⌝ }
     ensures { λ r. ⌜ Joined a b r ⌝ }
 {

@@ -2,6 +2,7 @@
 mod balancing;
 mod leaves;
 mod making;
+mod merging;
 mod packed;
 mod parting;
 mod reading;

@@ -96,7 +96,7 @@ pub fn both_on<W: Words>(
 
 /// A leaf of these bytes.
 pub fn leaf<W: Words>(words: &mut W, bytes: &[u8]) -> Option<Ref>
-    requires heap { ⌜ Free (row (now words)) ⌝ }
+    requires heap { ⌜ Free (row (now words)) 0 ⌝ }
     requires fits { ⌜ length (now bytes) ≤ 48 ⌝ }
     ensures leafed { λ d. ⌜ Leafed (row (now (words .entry))) (row (now (words .exit))) (now (bytes .entry)) d (touched (now (words .entry))) (touched (now (words .exit))) ⌝ }
     ensures octets { λ _. ⌜ Octets (now (bytes .entry)) ⌝ }
