@@ -8,3 +8,4 @@ pub mod Doubles
 pub mod Rotates
 pub mod Leavings
 pub mod Merges
+pub mod Attaches

@@ -2,7 +2,7 @@
 -- and else nothing is: they are let go.
 use mathlib.Core.Path.{_≡_}
 use mathlib.Core.List.{List, _∷_}
-use Prim.Native.Nat.{ℕ, _+_, _/_, _<_, _≤_, min, max}
+use Prim.Native.Nat.{ℕ, _+_, _-_, _*_, _/_, _<_, _≤_, min, max}
 use mathlib.Core.Bool.{cond}
 use lib.Dec.{leb}
 use lib.ListN.{length, take, drop}
@@ -15,9 +15,10 @@ use Rattle.cells.specs.Have.{Item, item, Have, opt, all-nodes}
 use Rattle.cells.specs.Steps.{Full}
 use Rattle.ropes.specs.Rope.{Rope, leaf, leaf-max, size, height, cells, Inner, Whole}
 use Rattle.ropes.specs.Rope.{node as node-of}
+use Rattle.ropes.specs.Costs.{steps}
 use Rattle.rope.specs.declared.sided.Side.{Side}
 use Rattle.rope.specs.Coded.{code}
-use Rattle.rope.specs.Sided.{node-on}
+use Rattle.rope.specs.Sided.{node-on, attach}
 
 -- how many cells a row of so many words has room for, the header's 8 among them
 abbrev pub capacity : ℕ → ℕ
@@ -162,3 +163,13 @@ spread b = cond (leb (length b) leaf-max) (leaf b) (node-of (leaf (take (length 
 -- from m to m′ one leaf or two of these bytes were made, or there was no room
 pub record Spreads (m m′ : List ℕ) (b : List ℕ) (d : Option Ref) (before after : ℕ) : Type 0 where
   pub runs : (x : Free m 2) → After m m′ d (spread b) (x .rest) (all-nodes (x .rest) + 2) after (before + 99)
+
+-- the guest, which is not higher, is to go onto the host, whose height is at most fuel
+pub record Onto (fuel : ℕ) (host guest : Rope) : Type 0 where
+  pub fit : Fit host guest
+  pub lower : height guest ≤ height host
+  pub deep : height host ≤ fuel
+
+-- A rotation costs 98, and is done only where the host doesn't become higher.
+abbrev pub attach-price : Side → Rope → Rope → ℕ
+attach-price side host guest = (52 * steps (height host) guest + 235) - 98 * (height (attach side host guest) - height host)

@@ -1,7 +1,9 @@
 -- What reading a rope asks, and what it finds.
 use mathlib.Core.Path.{_≡_}
 use mathlib.Core.List.{List}
-use Prim.Native.Nat.{ℕ, _<_, _≤_}
+use mathlib.Core.Bool.{Bool, not, _&&_}
+use lib.Dec.{leb}
+use Prim.Native.Nat.{ℕ, _+_, _<_, _≤_}
 use Rattle.cells.specs.Have.{Item, Have, Lent}
 use Rattle.ropes.specs.Rope.{Rope, bytes, size, height, is-small, Whole}
 use Rattle.ropes.specs.Layout.{sums-of}
@@ -35,3 +37,7 @@ pub record ShapeIs (t : Rope) (s : Shape) : Type 0 where
 pub record SummaryIs (t : Rope) (s : Summary) : Type 0 where
   pub high : s .height ≡ height t
   pub sums : s .sums ≡ sums-of (bytes t)
+
+-- whether the two may be the children of a node, the first not lower
+abbrev pub beside : Shape → Shape → Bool
+beside a b = leb (a .height) (b .height + 1) && not (b .small)

@@ -1,5 +1,6 @@
 //! Ropes of bytes in a heap of cells.
 mod balancing;
+mod joining;
 mod leaves;
 mod making;
 mod merging;
