@@ -9,3 +9,4 @@ pub mod Rotates
 pub mod Leavings
 pub mod Merges
 pub mod Attaches
+pub mod Concats

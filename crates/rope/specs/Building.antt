@@ -15,7 +15,7 @@ use Rattle.cells.specs.Have.{Item, item, Have, opt, all-nodes}
 use Rattle.cells.specs.Steps.{Full}
 use Rattle.ropes.specs.Rope.{Rope, leaf, leaf-max, size, height, cells, Inner, Whole}
 use Rattle.ropes.specs.Rope.{node as node-of}
-use Rattle.ropes.specs.Costs.{steps}
+use Rattle.ropes.specs.Costs.{steps, concat-steps}
 use Rattle.rope.specs.declared.sided.Side.{Side}
 use Rattle.rope.specs.Coded.{code}
 use Rattle.rope.specs.Sided.{node-on, attach}
@@ -173,3 +173,12 @@ pub record Onto (fuel : ℕ) (host guest : Rope) : Type 0 where
 -- A rotation costs 98, and is done only where the host doesn't become higher.
 abbrev pub attach-price : Side → Rope → Rope → ℕ
 attach-price side host guest = (52 * steps (height host) guest + 235) - 98 * (height (attach side host guest) - height host)
+
+-- two ropes, either of which may be empty
+pub record Any (u v : Rope) : Type 0 where
+  pub left : Whole u
+  pub right : Whole v
+  pub few : size u + size v < 536870912
+
+abbrev pub concat-price : Rope → Rope → ℕ
+concat-price u v = 52 * concat-steps u v + 237

@@ -4,7 +4,8 @@ ghost use Prim.Native.Nat.{ℕ, _+_, _*_, _<_, _≤_};
 ghost use Rattle.cells.specs.Steps.{Kept};
 ghost use Rattle.rope.specs.Lending.{beside};
 ghost use Rattle.rope.specs.Sided.{merge-on, attach as attached};
-ghost use Rattle.rope.specs.Building.{Two, Joins, TwoLeaves, Onto, attach-price};
+ghost use Rattle.ropes.specs.Join.{concat as concatenated};
+ghost use Rattle.rope.specs.Building.{Two, Joins, TwoLeaves, Onto, attach-price, Any, concat-price};
 use crate::balancing::balance;
 use crate::making::node_on;
 use crate::merging::merge;
@@ -56,5 +57,25 @@ fn attach<W: Words>(words: &mut W, side: Side, host: Ref, guest: Ref, fuel: u32)
             release(words, n.first);
             None
         }
+    }
+}
+
+/// The bytes of one rope and then those of the other, as a rope.
+pub fn concat<W: Words>(words: &mut W, left: Ref, right: Ref) -> Option<Ref>
+    requires { ⌜ Two Any (row (now words)) (left .0) (right .0) 128 ⌝ }
+    ensures joins { λ d. ⌜ Joins Any concatenated concat-price 1 (row (now (words .entry))) (row (now (words .exit))) (left .0) (right .0) 128 d (touched (now (words .entry))) (touched (now (words .exit))) ⌝ }
+    ensures kept { λ _. ⌜ Kept (row (now (words .entry))) (row (now (words .exit))) ⌝ }
+{
+    if left.is_none() {
+        return Some(right);
+    }
+    if right.is_none() {
+        return Some(left);
+    }
+    let s = shapes_of(words, left, right);
+    if s.second.height <= s.first.height {
+        attach(words, Side::Right, left, right, s.first.height)
+    } else {
+        attach(words, Side::Left, right, left, s.second.height)
     }
 }
