@@ -1,0 +1,4 @@
+pub mod Scans
+pub mod Words
+pub mod Finds
+pub mod Counts
