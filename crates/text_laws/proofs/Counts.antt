@@ -4,12 +4,13 @@ use mathlib.Core.Bool.{true, false, cond}
 use mathlib.Core.Logic.{⊎-elim}
 use Prim.Native.Nat.{ℕ, zero, suc, _+_, _-_, _≤_, _<_, min}
 use native.Mathlib.Omega.{arith}
+use native.Mathlib.Numerals.{add-one}
 use lib.ListN.{length}
 use Rattle.std.proofs.shelf.Tests.{cases-lt, cond-false, not-from-true, not-false, cases-bool}
 use Rattle.spec.specs.Bytes.{is-newline}
 use Rattle.spec.specs.Text.{Text, byte, is-in-line, line-end, line-start, newlines, line-of, line-count, nth-line}
-use Rattle.laws.proofs.TextLines.{line-start-is, line-start-down, line-end-up, line-end-within, line-start-behind, nth-line-within, nth-line-start}
-use Rattle.laws.proofs.TextCounts.{line-of-suc, line-of-end, line-of-within, line-of-behind, line-of-last, line-of-nth-line, line-start-unique}
+use Rattle.laws.proofs.TextLines.{line-end-within-line, line-start-is, line-start-down, line-end-up, line-end-within, line-start-behind, nth-line-within, nth-line-start}
+use Rattle.laws.proofs.TextCounts.{line-of-suc, line-of-end, line-of-within, line-of-behind, line-of-last, line-of-nth-line, nth-line-line-of, line-start-unique}
 
 -- p is the first place with n line ends before it
 pub record First-in-line (t : Text) (n p : ℕ) : Type 0 where
@@ -46,3 +47,24 @@ line-end-last t a h l =
 pub line-end-before : (t : Text) (a : ℕ) → a ≤ length t → line-of t a < newlines t → suc (line-end t a) ≡ nth-line t (suc (line-of t a))
 line-end-before t a h l =
     ⊎-elim (λ (k : line-end t a < length t). line-start-unique t (suc (line-end t a)) (nth-line t (suc (line-of t a))) (line-start-behind t a k) (nth-line-start t _) k (nth-line-within t _) (omega (arith, line-of-behind t a k, line-of-nth-line t (suc (line-of t a))))) (λ (k : length t ≤ line-end t a). absurd (omega (arith, line-of-last t a k))) (cases-lt (line-end t a) (length t))
+
+-- the same by a line's number
+pub nth-line-end-last : (t : Text) (l : ℕ) → newlines t ≤ l → line-end t (nth-line t l) ≡ length t
+nth-line-end-last t l h = line-end-last t (nth-line t l) (nth-line-within t l) (omega (arith, line-of-nth-line t l))
+
+pub nth-line-end-before : (t : Text) (l : ℕ) → l < newlines t → suc (line-end t (nth-line t l)) ≡ nth-line t (suc l)
+nth-line-end-before t l h =
+    let e : line-of t (nth-line t l) ≡ l = omega (arith, line-of-nth-line t l) in
+    line-end-before t (nth-line t l) (nth-line-within t l) (omega arith) ∙ ap (λ n. nth-line t (suc n)) e
+
+-- as code has it
+pub nth-line-next : (t : Text) (l : ℕ) → l < newlines t → nth-line t (l + 1) - 1 ≡ line-end t (nth-line t l)
+nth-line-next t l h = rw add-one (omega (arith, nth-line-end-before t l h))
+
+pub nth-line-some : (t : Text) (l : ℕ) → l < newlines t → 1 ≤ nth-line t (l + 1)
+nth-line-some t l h = rw add-one (omega (arith, nth-line-end-before t l h))
+
+-- the line of a place ends where the line with its number does
+pub line-end-nth-line : (t : Text) (a : ℕ) → a ≤ length t → line-end t (nth-line t (line-of t a)) ≡ line-end t a
+line-end-nth-line t a h =
+    ap (line-end t) (nth-line-line-of t a h) ∙ line-end-within-line t a (line-start t a) h (omega arith) (omega (arith, line-start-down t a, line-end-up t a))

@@ -2,3 +2,4 @@ pub mod Scans
 pub mod Words
 pub mod Finds
 pub mod Counts
+pub mod Chunks

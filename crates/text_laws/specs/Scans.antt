@@ -3,7 +3,7 @@ use mathlib.Core.Path.{_≡_}
 use mathlib.Core.Bool.{Bool, true, false, _&&_, _||_, not}
 use Prim.Native.Nat.{ℕ, zero, suc, _-_, _<_, _≤_}
 use lib.Dec.{eqb}
-use lib.ListN.{length}
+use lib.ListN.{length, getD}
 use Rattle.spec.specs.Bytes.{Class, newline, is-newline, is-white, class, same-class}
 use Rattle.spec.specs.Text.{Text, byte}
 
@@ -44,3 +44,20 @@ pub record Backward (f : Test) (t : Text) (a b : ℕ) : Type 0 where
   pub from : b ≤ a
   pub passes : (i : ℕ) → b ≤ i → i < a → f (before t i) (byte t i) ≡ true
   pub stops : 0 < b → f (before t (b - 1)) (byte t (b - 1)) ≡ false
+
+-- the byte before index i of some bytes, p before the first
+abbrev pub prior : ℕ → Text → ℕ → ℕ
+prior p xs zero = p
+prior p xs (suc i) = getD xs i 0
+
+-- so many of these bytes, from the first on, pass the test; p stands before them
+pub record Front (f : Test) (p : ℕ) (xs : Text) (k : ℕ) : Type 0 where
+  pub within : k ≤ length xs
+  pub passes : (i : ℕ) → i < k → f (prior p xs i) (getD xs i 0) ≡ true
+  pub stops : k < length xs → f (prior p xs k) (getD xs k 0) ≡ false
+
+-- from index k on these bytes pass the test, and not the one before
+pub record Back (f : Test) (p : ℕ) (xs : Text) (k : ℕ) : Type 0 where
+  pub within : k ≤ length xs
+  pub passes : (i : ℕ) → k ≤ i → i < length xs → f (prior p xs i) (getD xs i 0) ≡ true
+  pub stops : 0 < k → f (prior p xs (k - 1)) (getD xs (k - 1) 0) ≡ false
