@@ -14,13 +14,13 @@ use Rattle.text_laws.specs.Scans.{before, Test, Forward, Backward, prior, Fron
 
 -- n bytes of a text from a place on
 module _ (t : Text) (a n : ℕ) (fits : a + n ≤ length t) where
-  range-length : length (take n (drop a t)) ≡ n
+  pub range-length : length (take n (drop a t)) ≡ n
   range-length = omega (arith, length-take n (drop a t), length-drop a t)
 
-  range-byte : (i : ℕ) → i < n → getD (take n (drop a t)) i 0 ≡ byte t (a + i)
+  pub range-byte : (i : ℕ) → i < n → getD (take n (drop a t)) i 0 ≡ byte t (a + i)
   range-byte i h = getD-take n (drop a t) i 0 h ∙ getD-drop a t i 0 ∙ getD-default t (a + i) 0 newline (omega arith)
 
-  range-prior : (p : ℕ) → p ≡ before t a → (i : ℕ) → i ≤ n → prior p (take n (drop a t)) i ≡ before t (a + i)
+  pub range-prior : (p : ℕ) → p ≡ before t a → (i : ℕ) → i ≤ n → prior p (take n (drop a t)) i ≡ before t (a + i)
   range-prior p e zero h = let s : a + 0 ≡ a = omega arith in e ∙ ap (before t) (sym s)
   range-prior p e (suc i) h = let s : a + suc i ≡ suc (a + i) = omega arith in range-byte i h ∙ ap (before t) (sym s)
 

@@ -3,17 +3,18 @@ use mathlib.Core.Path.{_≡_, refl, sym, ap, _∙_}
 use mathlib.Core.Bool.{Bool, true, false, _&&_, not, cond}
 use mathlib.Core.List.{List, [], _∷_}
 use mathlib.Core.Logic.{⊎-elim}
-use Prim.Native.Nat.{ℕ, zero, suc, _+_, _-_, _≤_, _<_}
+use Prim.Native.Nat.{ℕ, zero, suc, _+_, _-_, _≤_, _<_, min}
 use native.Mathlib.Omega.{arith}
 use lib.ListN.{length, drop}
 use lib.Dec.{eqb}
 use lib.Seq.{drop-cons}
-use Rattle.std.proofs.shelf.Tests.{cond-both, cases-lt, cond-true, cond-false, eq-eqb, ne-eqb, not-true, not-false}
+use Rattle.std.proofs.shelf.Tests.{cond-both, cases-lt, cond-true, cond-false, eq-eqb, ne-eqb, not-true, not-false, true≢false}
+use Rattle.std.proofs.shelf.Ways.{tells}
 use Rattle.std.proofs.shelf.Lists.{drop-all}
-use Rattle.spec.specs.Bytes.{newline, is-newline, is-white}
-use Rattle.spec.specs.Text.{Text, byte, skip-forward, skip-back, is-in-line, line-start}
+use Rattle.spec.specs.Bytes.{newline, is-newline, is-blank, is-white}
+use Rattle.spec.specs.Text.{Text, byte, skip-forward, skip-back, is-in-line, line-start, line-end, last-in-line, first-nonblank}
 use Rattle.spec.specs.Motions.{is-empty-line, white-span, skip-white, skip-white-back}
-use Rattle.laws.proofs.TextLines.{skip-forward-is, skip-back-is, skip-back-down}
+use Rattle.laws.proofs.TextLines.{skip-forward-is, skip-back-is, skip-back-down, line-start-down, line-end-up, at-line-end}
 use Rattle.text_laws.specs.Scans.{before, Test, alone, white-between, Forward, Backward}
 
 -- a line begins behind a line end
@@ -75,3 +76,21 @@ skip-white-back-scan t zero b h = let l : b ≤ 0 = h .from in omega arith
 skip-white-back-scan t (suc a) b h =
     let l : b ≤ suc a = h .from in
     ⊎-elim (λ (k : b < suc a). cond-true _ _ _ (white-back-test t a ∙ h .passes a (omega arith) (omega arith)) ∙ skip-white-back-scan t a b (one-back _ t a b (omega arith) h)) (λ (k : suc a ≤ b). let s : b ≡ suc a = omega arith in let r : b - 1 ≡ a = omega arith in cond-false _ _ _ (white-back-test t a ∙ rw r at (h .stops (omega arith))) ∙ sym s) (cases-lt b (suc a))
+
+-- Blanks lie within a line.
+
+blank-in-line : (c : ℕ) → is-blank c ≡ true → is-in-line c ≡ true
+blank-in-line c e = grind (arith, tells)
+
+pub blanks-end : (t : Text) (a b : ℕ) → a ≤ length t → Forward (alone is-blank) t (line-start t a) b → b ≤ line-end t a
+blanks-end t a b h s =
+    ⊎-elim (λ (k : line-end t a < b). absurd (true≢false (sym (blank-in-line _ (s .passes (line-end t a) (omega (arith, line-start-down t a, line-end-up t a)) k)) ∙ at-line-end t a (omega (arith, s .within))))) (λ (k : b ≤ line-end t a). k) (cases-lt (line-end t a) b)
+
+pub first-nonblank-scan : (t : Text) (a b : ℕ) → Forward (alone is-blank) t (line-start t a) b → first-nonblank t a ≡ min b (last-in-line t a)
+unfolding first-nonblank
+first-nonblank-scan t a b h = ap (λ n. min n (last-in-line t a)) (skip-forward-scan is-blank t (line-start t a) b h)
+
+-- at most one of them, or the line's last place, is not before the place that is found
+pub blanks-passed : (t : Text) (a b : ℕ) → a ≤ length t → Forward (alone is-blank) t (line-start t a) b → b ≤ suc (min b (last-in-line t a))
+unfolding last-in-line
+blanks-passed t a b h s = let l : b ≤ line-end t a = blanks-end t a b h s in grind (arith, tells)
