@@ -15,7 +15,8 @@ use Rattle.spec.specs.Bytes.{newline, is-newline}
 use Rattle.spec.specs.Text.{Text, byte, part, is-in-line, line-end, line-start}
 use Rattle.spec.specs.Motions.{nth-found, find-in-line}
 use Rattle.laws.proofs.TextLines.{Pass, at-line-end, line-end-is, line-end-within-line, line-start-down, line-end-up, in-text, before-line-end, line-end-within}
-use Rattle.text_laws.specs.Scans.{before, until, Forward}
+use Rattle.text_laws.specs.Scans.{until, Forward}
+use Rattle.text_laws.specs.Finds.{found-from, FoundNone, FoundAt}
 
 part-cons : (t : Text) (p e : ℕ) → p < e → p < length t → part t p e ≡ byte t p ∷ part t (suc p) e
 part-cons t p e l h =
@@ -28,10 +29,6 @@ nth-found-on c n t e zero p l h others = let s : p + 0 ≡ p = omega arith in rw
 nth-found-on c n t e (suc k) p l h others =
     let s : p + suc k ≡ suc p + k = omega arith in
     rw (part-cons t p e (omega arith) (omega arith), s) (cond-false (eqb (byte t p) c) _ _ (others p (omega arith) (omega arith)) ∙ nth-found-on c n t e k (suc p) (omega arith) h (λ i m q. others i (omega arith) (omega arith)))
-
--- k bytes c are looked for behind a place; none, and the place is found
-abbrev pub found-from : ℕ → ℕ → Text → ℕ → Option ℕ
-found-from c k t a = cond (eqb k 0) (some a) (find-in-line c k t a)
 
 module _ (c : ℕ) (t : Text) (a b : ℕ) (in-line : is-newline (byte t a) ≡ false) (scan : Forward (until c) t (suc a) b) where
   inside : is-in-line (byte t a) ≡ true
@@ -55,25 +52,41 @@ module _ (c : ℕ) (t : Text) (a b : ℕ) (in-line : is-newline (byte t a) ≡ f
       let s : suc a + (b - suc a) ≡ b = omega arith in
       rw s at (nth-found-on c n t (line-end t a) (b - suc a) (suc a) (omega (arith, before-end)) (line-end-within t a (omega (arith, in-text t a inside))) (λ i l h. others i l (omega arith) .0))
 
-  -- there is none where the scan comes to the line's end
-  pub found-none : is-newline (byte t b) ≡ true → (n : ℕ) → find-in-line c (suc n) t a ≡ none
-  unfolding nth-found
-  found-none e n =
-      let s : line-end t a ≡ b = line-end-is t a b (omega (arith, scan .from)) (scan .within) passes (λ _. not-from-true (is-newline (byte t b)) e) in
-      let z : b - b ≡ 0 = omega arith in
-      to-b n ∙ rw (s, z)
+  -- the scan comes to the line's end
+  at-end : is-newline (byte t b) ≡ true → line-end t a ≡ b
+  at-end e = line-end-is t a b (omega (arith, scan .from)) (scan .within) passes (λ _. not-from-true (is-newline (byte t b)) e)
 
-  -- else it has come to the first
+  pub found-none : is-newline (byte t b) ≡ true → FoundNone c t a
+  unfolding nth-found
+  found-none e = record { found = λ n. let z : b - b ≡ 0 = omega arith in to-b n ∙ rw (at-end e, z) }
+
+  -- or to the byte that is looked for
   same-end : line-end t b ≡ line-end t a
   same-end = line-end-within-line t a b (omega (arith, in-text t a inside)) (omega (arith, line-start-down t a, scan .from)) before-end
 
   is-found : is-newline (byte t b) ≡ false → b < length t → eqb (byte t b) c ≡ true
   is-found e l = ⊎-elim (λ h. h) (λ h. absurd (true≢false (sym h ∙ e))) (or-cases (eqb (byte t b) c) (is-newline (byte t b)) (not-false _ (scan .stops l)))
 
-  pub found-first : is-newline (byte t b) ≡ false → (n : ℕ) → find-in-line c (suc n) t a ≡ found-from c n t b
+  pub found-first : is-newline (byte t b) ≡ false → FoundAt c t a b
   unfolding nth-found find-in-line
-  found-first e n =
+  found-first e =
       let q : is-in-line (byte t b) ≡ true = not-from-false (is-newline (byte t b)) e in
       let l : b < length t = in-text t b q in
       let m : b < line-end t a = omega (arith, before-line-end t b q, same-end) in
-      to-b n ∙ rw (part-cons t b (line-end t a) m l, same-end) (cond-true (eqb (byte t b) c) _ _ (is-found e l))
+      record {
+        ahead = scan .from;
+        inside = l;
+        same-line = same-end;
+        found = λ n. to-b n ∙ rw (part-cons t b (line-end t a) m l, same-end) (cond-true (eqb (byte t b) c) _ _ (is-found e l));
+      }
+
+  -- it stays in the line
+  pub found-within : b ≤ line-end t a
+  found-within = before-end
+
+-- at a line end nothing is behind
+pub found-none-at-end : (c : ℕ) (t : Text) (a : ℕ) → a ≤ length t → is-newline (byte t a) ≡ true → FoundNone c t a
+unfolding find-in-line nth-found
+found-none-at-end c t a h e =
+    let s : line-end t a ≡ a = line-end-is t a a (omega arith) h (λ i l k. absurd (omega arith)) (λ _. not-from-true (is-newline (byte t a)) e) in
+    record { found = λ n. let z : a - suc a ≡ 0 = omega arith in rw (s, z) }

@@ -1,38 +1,41 @@
 -- Words by scans.
-use mathlib.Core.Path.{_≡_, refl, sym, ap, _∙_}
-use mathlib.Core.Bool.{Bool, true, false, _&&_, cond}
-use mathlib.Core.Logic.{⊎-elim}
+use mathlib.Core.Path.{_≡_, refl, sym, ap, subst, _∙_}
+use mathlib.Core.Bool.{Bool, true, false}
+use mathlib.Core.List.{[]}
 use Prim.Native.Nat.{ℕ, zero, suc, _+_, _-_, _≤_, _<_}
 use native.Mathlib.Omega.{arith}
-use lib.ListN.{length, drop, length-drop}
-use Rattle.std.proofs.shelf.Tests.{cond-true, cond-false, and-left, true≢false, not-true}
-use Rattle.spec.specs.Bytes.{Class, white, newline, is-newline, is-white, class, same-class}
-use Rattle.spec.specs.Text.{Text, byte, skip-forward, skip-back}
-use Rattle.spec.specs.Motions.{times, is-empty-line, white-span, skip-white, word-passed, next-word, skip-white-back, word-start, previous-word, word-last, word-end}
-use Rattle.laws.proofs.TextMotions.{word-passed-up, nonwhite-in-line}
-use Rattle.text_laws.specs.Scans.{before, Test, of-class, white-between, Forward, Backward}
-use Rattle.text_laws.proofs.Scans.{empty-line-is, skip-forward-scan, skip-back-scan, skip-white-scan, skip-white-back-scan}
+use native.Mathlib.Numerals.{add-one}
+use lib.ListN.{length, drop}
+use Rattle.std.proofs.shelf.Lists.{drop-all}
+use Rattle.std.proofs.shelf.Tests.{cond-true, cond-false}
+use Rattle.spec.specs.Bytes.{Class, white, is-white, class, same-class}
+use Rattle.spec.specs.Text.{Text, byte, span, skip-forward}
+use Rattle.spec.specs.Motions.{times, is-empty-line, skip-white, word-passed, next-word, word-start, previous-word, word-last, word-end}
+use Rattle.laws.proofs.TextMotions.{word-passed-up}
+use Rattle.text_laws.specs.Scans.{of-class, white-between, Forward, Backward}
+use Rattle.text_laws.proofs.Scans.{skip-forward-scan, skip-back-scan, skip-white-scan, skip-white-back-scan}
 
 abbrev class-like : ℕ → ℕ → Bool
 class-like d c = same-class (class c) (class d)
 
+-- a scan over the class of a byte
+of-byte : (t : Text) (a b c : ℕ) (k : Class) → k ≡ class (byte t c) → Forward (of-class k) t a b → skip-forward (class-like (byte t c)) t a ≡ b
+of-byte t a b c k e h = skip-forward-scan (class-like (byte t c)) t a b (subst (λ x. Forward (of-class x) t a b) e h)
+
 -- The word or empty line at a place is passed.
 
-pub empty-line-passed : (t : Text) (a : ℕ) → is-newline (byte t a) ≡ true → is-newline (before t a) ≡ true → word-passed t a ≡ suc a
+pub passed-empty-line : (t : Text) (a : ℕ) → is-empty-line t a ≡ true → a + 1 ≡ word-passed t a
 unfolding word-passed
-empty-line-passed t a e q = cond-true (is-empty-line t a) _ _ (empty-line-is t a ∙ rw (e, q) refl)
+passed-empty-line t a e = add-one a ∙ sym (cond-true (is-empty-line t a) _ _ e)
 
-pub white-passed : (t : Text) (a : ℕ) → is-white (byte t a) ≡ true → (is-newline (byte t a) && is-newline (before t a)) ≡ false → word-passed t a ≡ a
+pub passed-white : (t : Text) (a : ℕ) → is-empty-line t a ≡ false → is-white (byte t a) ≡ true → a ≡ word-passed t a
 unfolding word-passed
-white-passed t a w q = cond-false (is-empty-line t a) _ _ (empty-line-is t a ∙ q) ∙ cond-true (is-white (byte t a)) _ _ w
+passed-white t a e w = sym (cond-false (is-empty-line t a) _ _ e ∙ cond-true (is-white (byte t a)) _ _ w)
 
-nonwhite-no-end : (c : ℕ) → is-white c ≡ false → is-newline c ≡ false
-nonwhite-no-end c w = not-true (is-newline c) (nonwhite-in-line c w)
-
-pub word-passed-scan : (t : Text) (a b : ℕ) → is-white (byte t a) ≡ false → Forward (of-class (class (byte t a))) t a b → word-passed t a ≡ b
+pub passed-word : (t : Text) (a b : ℕ) (k : Class) → is-empty-line t a ≡ false → is-white (byte t a) ≡ false → k ≡ class (byte t a) → Forward (of-class k) t a b → b ≡ word-passed t a
 unfolding word-passed
-word-passed-scan t a b w h =
-    cond-false (is-empty-line t a) _ _ (empty-line-is t a ∙ and-left _ _ (nonwhite-no-end (byte t a) w)) ∙ cond-false (is-white (byte t a)) _ _ w ∙ skip-forward-scan (class-like (byte t a)) t a b h
+passed-word t a b k e w q h =
+    sym (cond-false (is-empty-line t a) _ _ e ∙ cond-false (is-white (byte t a)) _ _ w ∙ of-byte t a b a k q h)
 
 -- The next word.
 
@@ -46,13 +49,22 @@ next-word-scan t a b h = let w : b ≤ length t = h .within in omega (arith, ski
 
 -- The word before.
 
-pub empty-line-starts : (t : Text) (a : ℕ) → is-newline (byte t a) ≡ true → is-newline (before t a) ≡ true → word-start t (suc a) ≡ a
+pub starts-at-0 : (t : Text) → word-start t 0 ≡ 0
 unfolding word-start
-empty-line-starts t a e q = cond-true (is-empty-line t a) _ _ (empty-line-is t a ∙ rw (e, q) refl)
+starts-at-0 t = refl
 
-pub word-start-scan : (t : Text) (a b : ℕ) → (is-newline (byte t a) && is-newline (before t a)) ≡ false → Backward (of-class (class (byte t a))) t (suc a) b → word-start t (suc a) ≡ b
+pub starts-empty-line : (t : Text) (a : ℕ) → 0 < a → is-empty-line t (a - 1) ≡ true → a - 1 ≡ word-start t a
 unfolding word-start
-word-start-scan t a b q h = cond-false (is-empty-line t a) _ _ (empty-line-is t a ∙ q) ∙ skip-back-scan (class-like (byte t a)) t (suc a) b h
+starts-empty-line t zero l e = absurd (omega arith)
+starts-empty-line t (suc a) l e = let s : suc a - 1 ≡ a = omega arith in s ∙ sym (cond-true (is-empty-line t a) _ _ (rw s at e))
+
+pub starts-word : (t : Text) (a b : ℕ) (k : Class) → 0 < a → is-empty-line t (a - 1) ≡ false → k ≡ class (byte t (a - 1)) → Backward (of-class k) t a b → b ≡ word-start t a
+unfolding word-start
+starts-word t zero b k l e q h = absurd (omega arith)
+starts-word t (suc a) b k l e q h =
+    let s : suc a - 1 ≡ a = omega arith in
+    let r : k ≡ class (byte t a) = rw s at q in
+    sym (cond-false (is-empty-line t a) _ _ (rw s at e) ∙ skip-back-scan (class-like (byte t a)) t (suc a) b (subst (λ x. Backward (of-class x) t (suc a) b) r h))
 
 pub previous-word-scan : (t : Text) (a b : ℕ) → Backward white-between t a b → previous-word t a ≡ word-start t b
 unfolding previous-word
@@ -60,12 +72,24 @@ previous-word-scan t a b h = ap (word-start t) (skip-white-back-scan t a b h)
 
 -- The next last byte of a word.
 
-pub word-end-scan : (t : Text) (a s b : ℕ) → Forward (of-class white) t (suc a) s → Forward (of-class (class (byte t s))) t s b → word-end t a ≡ b - 1
+pub word-end-scan : (t : Text) (a s b : ℕ) (k : Class) → Forward (of-class white) t (a + 1) s → k ≡ class (byte t s) → Forward (of-class k) t s b → word-end t a ≡ b - 1
 unfolding word-end word-last
-word-end-scan t a s b h k =
-    ap (λ p. skip-forward (class-like (byte t p)) t p - 1) (skip-forward-scan is-white t (suc a) s h) ∙ ap (λ n. n - 1) (skip-forward-scan (class-like (byte t s)) t s b k)
+word-end-scan t a s b k h q l =
+    let e : skip-forward is-white t (suc a) ≡ s = skip-forward-scan is-white t (suc a) s (rw add-one at h) in
+    ap (λ p. skip-forward (class-like (byte t p)) t p - 1) e ∙ ap (λ n. n - 1) (of-byte t s b s k q l)
+
+pub word-end-past : (t : Text) (a : ℕ) → length t ≤ a → a ≡ word-end t a
+unfolding word-end word-last skip-forward span
+word-end-past t a h =
+    let s : drop (suc a) t ≡ [] = drop-all (suc a) t (omega arith) in
+    let e : suc a + 0 ≡ suc a = omega arith in
+    rw (s, e, s) (omega arith)
 
 -- What leads nowhere leads nowhere however often.
 pub times-stay : {A : Type 0} (f : A → A) (n : ℕ) (a : A) → f a ≡ a → times n f a ≡ a
 times-stay f zero a e = refl
 times-stay f (suc n) a e = ap (times n f) e ∙ times-stay f n a e
+
+-- one of n - i times
+pub times-more : {A : Type 0} (f : A → A) (n i : ℕ) (a : A) → i < n → times (n - (i + 1)) f (f a) ≡ times (n - i) f a
+times-more f n i a h = let s : n - i ≡ suc (n - (i + 1)) = omega arith in rw s refl
