@@ -9,7 +9,7 @@ use native.Mathlib.Omega.{arith}
 use lib.ListN.{length, take, drop}
 use lib.Dec.{eqb}
 use lib.Seq.{drop-cons}
-use Rattle.std.proofs.shelf.Tests.{cond-true, cond-false, cases-lt, or-parts, or-cases, not-true, not-false, eqb-true, eq-eqb, true≢false, not-from-false, not-from-true}
+use Rattle.std.proofs.shelf.Tests.{cond-true, cond-false, cases-lt, or-parts, or-cases, not-true, not-false, eq-eqb, ne-eqb, true≢false, not-from-false, not-from-true}
 use Rattle.std.proofs.shelf.Lists.{getD-past}
 use Rattle.spec.specs.Bytes.{newline, is-newline}
 use Rattle.spec.specs.Text.{Text, byte, part, is-in-line, line-end, line-start}
@@ -90,3 +90,21 @@ unfolding find-in-line nth-found
 found-none-at-end c t a h e =
     let s : line-end t a ≡ a = line-end-is t a a (omega arith) h (λ i l k. absurd (omega arith)) (λ _. not-from-true (is-newline (byte t a)) e) in
     record { found = λ n. let z : a - suc a ≡ 0 = omega arith in rw (s, z) }
+
+-- One of n - i bytes that are looked for.
+
+pub found-from-some : (c : ℕ) (t : Text) (n a : ℕ) → 1 ≤ n → found-from c n t a ≡ find-in-line c n t a
+found-from-some c t n a h = cond-false (eqb n 0) _ _ (ne-eqb n 0 (λ e. omega arith))
+
+pub found-more : (c : ℕ) (t : Text) (n i a b : ℕ) → i < n → FoundAt c t a b → found-from c (n - (i + 1)) t b ≡ found-from c (n - i) t a
+found-more c t n i a b l h =
+    let s : suc (n - (i + 1)) ≡ n - i = omega arith in
+    sym (found-from-some c t (n - i) a (omega arith) ∙ (ap (λ k. find-in-line c k t a) (sym s) ∙ h .found (n - (i + 1))))
+
+pub found-no-more : (c : ℕ) (t : Text) (n i a : ℕ) → i < n → FoundNone c t a → found-from c (n - i) t a ≡ none
+found-no-more c t n i a l h =
+    let s : suc (n - (i + 1)) ≡ n - i = omega arith in
+    found-from-some c t (n - i) a (omega arith) ∙ (ap (λ k. find-in-line c k t a) (sym s) ∙ h .found (n - (i + 1)))
+
+pub found-from-none : (c : ℕ) (t : Text) (n i a : ℕ) → n ≤ i → found-from c (n - i) t a ≡ some a
+found-from-none c t n i a h = cond-true (eqb (n - i) 0) _ _ (eq-eqb (n - i) 0 (omega arith))
