@@ -28,6 +28,19 @@ fn repeated(heap: Global, bytes: &[u8], times: usize) -> Result<Vec<u8>, Fault> 
     Ok(all)
 }
 
+// Lines as they are put above a line, or below one.
+fn with_line_end(heap: Global, lines: &[u8], side: Side) -> Result<Vec<u8>, Fault> {
+    let mut all = Vec::new(heap);
+    if let Side::Behind = side {
+        all.push(b'\n')?;
+    }
+    all.extend_from_slice(lines)?;
+    if let Side::Before = side {
+        all.push(b'\n')?;
+    }
+    Ok(all)
+}
+
 impl Editor {
     pub(crate) fn run(&mut self, command: Command) -> Result<(), Fault> {
         match command {
@@ -135,28 +148,18 @@ impl Editor {
     }
 
     fn put_lines(&mut self, side: Side, count: Count) -> Result<(), Fault> {
+        let once = with_line_end(self.heap, self.register.bytes.as_slice(), side)?;
+        let new = repeated(self.heap, once.as_slice(), count.times())?;
         let text = self.buffer.bytes();
         let at = self.buffer.cursor();
-        let mut lines = Vec::new(self.heap);
         let (place, first) = match side {
-            Side::Before => {
-                lines.extend_from_slice(self.register.bytes.as_slice())?;
-                lines.push(b'\n')?;
-                let start = line_start(text, at);
-                (start, start)
-            }
-            Side::Behind => {
-                lines.push(b'\n')?;
-                lines.extend_from_slice(self.register.bytes.as_slice())?;
-                let end = line_end(text, at);
-                (end, end.saturating_add(1))
-            }
+            Side::Before => (line_start(text, at), line_start(text, at)),
+            Side::Behind => (line_end(text, at), line_end(text, at).saturating_add(1)),
         };
-        let new = repeated(self.heap, lines.as_slice(), count.times())?;
         self.replace(place, place, new.as_slice())?;
         let text = self.buffer.bytes();
-        let place = first_nonblank(text, first.min(text.len()));
-        self.stand(place);
+        let nonblank = first_nonblank(text, first.min(text.len()));
+        self.stand(nonblank);
         Ok(())
     }
 
