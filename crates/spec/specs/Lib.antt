@@ -10,4 +10,7 @@ pub mod Dispatch
 pub mod Screen
 pub mod Terminal
 pub mod Promises
+pub mod HistoryLaws
 pub mod Worked
+pub mod Laws
+pub mod HistoryWitnesses

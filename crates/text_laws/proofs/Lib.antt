@@ -1,0 +1,5 @@
+pub mod Scans
+pub mod Words
+pub mod Finds
+pub mod Counts
+pub mod Chunks
