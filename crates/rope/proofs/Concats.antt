@@ -23,9 +23,9 @@ use Rattle.ropes.specs.Costs.{steps, concat-steps}
 use Rattle.ropes.proofs.Depths.{height-low}
 use Rattle.rope.specs.declared.sided.Side.{Side}
 use Rattle.rope.specs.declared.sided.Side.the-variants.{Left, Right}
-use Rattle.rope.specs.declared.reading.Shape.{Shape}
-use Rattle.rope.specs.Coded.{code}
-use Rattle.rope.specs.Lending.{LendsSome, ShapeIs}
+use Rattle.rope_cells.specs.declared.reading.Shape.{Shape}
+use Rattle.rope_cells.specs.Coded.{code}
+use Rattle.rope_cells.specs.Lending.{LendsSome, ShapeIs}
 use Rattle.rope.specs.Sided.{attach}
 use Rattle.rope.specs.Building.{After, Two, Joins, Fit, Onto, attach-price, Any, concat-price}
 use Rattle.rope.proofs.Holds.{swap-have, have-same, lends-some}
