@@ -15,15 +15,15 @@ use Rattle.ropes.specs.Rope.{Rope, empty, leaf, node, bytes, size, height, cell
 use Rattle.ropes.specs.Layout.{sums-of, sum-at, pack, digit, node-tag, leaf-data, node-data}
 use Rattle.ropes.proofs.Balance.{inner-some}
 use Rattle.ropes.proofs.Packs.{digit-pack}
-use Rattle.ropes.proofs.Sums.{used, length-sums, sum-unused, sums-digits, sum-first}
+use Rattle.ropes.proofs.Sums.{used, length-sums, sum-unused, sum-small, sums-digits, sum-first}
 use Rattle.std.proofs.shelf.Lists.{ext-getD, getD-append-left}
 use Rattle.std.proofs.shelf.Tests.{cases-lt}
 use Rattle.rope_cells.specs.Coded.{code, tag-of}
 use Rattle.rope_cells.specs.Packed.{SumsBack}
-use Rattle.rope_cells.specs.Lending.{Lends, LendsSome, LendsNode, ShapeIs, SummaryIs}
+use Rattle.rope_cells.specs.Lending.{Lends, LendsSome, LendsNode, LendsChildren, ShapeIs, SummaryIs}
 use Rattle.rope_cells.specs.declared.reading.Shape.{Shape}
 use Rattle.rope_cells.specs.declared.reading.Summary.{Summary}
-use Rattle.rope_cells.proofs.Packings.{leaf-first}
+use Rattle.rope_cells.proofs.Packings.{leaf-first, left-sum}
 
 pub nodes-code : (t : Rope) → nodes (code t) ≡ cells t
 nodes-code empty = refl
@@ -108,3 +108,47 @@ pub summary-leaf : (t : Rope) (w : ℕ) (s : List ℕ) → Whole t → 1 ≤ hei
 summary-leaf empty w s ok some is low back = absurd (omega arith)
 summary-leaf (leaf b) w s ok some is low back = record { high = refl; sums = back .are b (ok .1) is }
 summary-leaf (node l r) w s ok some is low back = absurd (low (ap (λ z. z % 64) is ∙ node-tag-low _))
+
+-- a node whose children are known
+module _ (m : List ℕ) (p : ℕ) (x : LendsChildren m p) where
+  pub children-lent : Lent m p (code (node (x .left) (x .right)))
+  children-lent = subst (λ t. Lent m p (code t)) (x .is) (x .lends .lent)
+
+  pub children-whole : Whole (node (x .left) (x .right))
+  children-whole = subst Whole (x .is) (x .lends .whole)
+
+  pub children-few : size (node (x .left) (x .right)) < 536870912
+  children-few = omega (arith, ap size (x .is), x .lends .few)
+
+  pub children-reading : Reading m p
+  children-reading = record { rest = x .lends .rest; left = code (x .left); right = code (x .right); word = node-data (x .left) (x .right); have = x .lends .have; lent = children-lent }
+
+pub left-sum-read : (m : List ℕ) (p k w : ℕ) → WordRead m p (7 + k) w → (x : LendsChildren m p) → w ≡ sum-at (bytes (x .left)) k
+left-sum-read m p k w read x =
+    read .is (code (x .left)) (code (x .right)) (node-data (x .left) (x .right)) (children-lent m p x .stands) ∙ left-sum (x .left) (x .right) k
+
+-- no reference is an empty rope
+pub none-empty : (m : List ℕ) (p : ℕ) (t : Rope) → p ≡ 0 → Val m p (code t) → t ≡ empty
+none-empty m p empty e v = refl
+none-empty m p (leaf b) e v = absurd (omega (arith, v .0))
+none-empty m p (node l r) e v = absurd (omega (arith, v .0))
+
+pub some-height : (m : List ℕ) (p : ℕ) (t : Rope) → p ≢ 0 → Val m p (code t) → 1 ≤ height t
+some-height m p empty e v = absurd (e v)
+some-height m p (leaf b) e v = omega arith
+some-height m p (node l r) e v = omega arith
+
+-- a rope that is lent, by its reference
+abbrev pub lends-some : (m : List ℕ) (p : ℕ) → p ≢ 0 → Lends m p → LendsSome m p
+lends-some m p some x = record { lends = x; some = some-height m p (x .rope) some (x .lent .stands) }
+
+pub sum-empty : (m : List ℕ) (p k : ℕ) → p ≡ 0 → (x : Lends m p) → 0 ≡ sum-at (bytes (x .rope)) k
+sum-empty m p k zero-p x =
+    let e = none-empty m p (x .rope) zero-p (x .lent .stands) in
+    let f : sum-at (bytes (x .rope)) k ≡ sum-at [] k = ap (λ t. sum-at (bytes t) k) e in
+    omega (arith, f, sum-small [] k)
+
+pub sum-leaf : (t : Rope) (k w v : ℕ) → Whole t → 1 ≤ height t → w ≡ tag-of t → w % 64 ≢ 63 → v ≡ digit w k → v ≡ sum-at (bytes t) k
+sum-leaf empty k w v ok some is low e = absurd (omega arith)
+sum-leaf (leaf b) k w v ok some is low e = e ∙ (ap (λ z. digit z k) is ∙ digit-pack (sums-of b) k (sums-digits b (omega (arith, ok .1))))
+sum-leaf (node l r) k w v ok some is low e = absurd (low (ap (λ z. z % 64) is ∙ node-tag-low _))

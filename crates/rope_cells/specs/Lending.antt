@@ -5,7 +5,7 @@ use mathlib.Core.Bool.{Bool, not, _&&_}
 use lib.Dec.{leb}
 use Prim.Native.Nat.{ℕ, _+_, _<_, _≤_}
 use Rattle.cells.specs.Have.{Item, Have, Lent}
-use Rattle.ropes.specs.Rope.{Rope, bytes, size, height, is-small, Whole}
+use Rattle.ropes.specs.Rope.{Rope, node, bytes, size, height, is-small, Whole}
 use Rattle.ropes.specs.Layout.{sums-of}
 use Rattle.rope_cells.specs.Coded.{code}
 use Rattle.rope_cells.specs.declared.reading.Shape.{Shape}
@@ -29,6 +29,13 @@ pub record LendsSome (m : List ℕ) (p : ℕ) : Type 0 where
 pub record LendsNode (m : List ℕ) (p : ℕ) : Type 0 where
   pub lends : Lends m p
   pub high : 2 ≤ height (lends .rope)
+
+-- a node with these children
+pub record LendsChildren (m : List ℕ) (p : ℕ) : Type 0 where
+  pub lends : Lends m p
+  pub left : Rope
+  pub right : Rope
+  pub is : lends .rope ≡ node left right
 
 pub record ShapeIs (t : Rope) (s : Shape) : Type 0 where
   pub high : s .height ≡ height t

@@ -1,11 +1,13 @@
 //! What a rope's cell says of it.
 ghost use mathlib.Core.Path.{_≡_};
 ghost use Prim.Native.Nat.{ℕ, _+_, _<_, _≤_};
-ghost use Rattle.ropes.specs.Rope.{bytes};
-ghost use Rattle.ropes.specs.Layout.{sums-of};
+ghost use Rattle.ropes.specs.Rope.{bytes, size};
+ghost use Rattle.ropes.specs.Layout.{sums-of, sum-at};
 ghost use Rattle.rope_cells.specs.Coded.{tag-of as first-word};
-ghost use Rattle.rope_cells.specs.Lending.{LendsSome, LendsNode, ShapeIs, SummaryIs};
+ghost use Rattle.rope_cells.specs.Lending.{Lends, LendsSome, LendsNode, LendsChildren, ShapeIs, SummaryIs};
+use crate::packed::digit_of;
 use crate::packed::leaf_sums;
+use crate::sums::Sum;
 use crate::sums::Sums;
 use crate::sums::USED;
 use cells::Ref;
@@ -116,4 +118,54 @@ pub fn summary_of<W: Words>(words: &mut W, p: Ref) -> Summary
         let sums = leaf_sums(tag);
         Summary { height: 1, sums }
     }
+}
+
+/// The sum at place `k` of the left child of the node `p`.
+pub fn left_sum<W: Words>(words: &mut W, p: Ref, k: usize) -> u32
+    requires node { ⌜ LendsChildren (row (now words)) (p .0) ⌝ }
+    requires place { ⌜ k < 6 ⌝ }
+    ensures value { λ r. ⌜ ((x : LendsChildren (row (now (words .entry))) (p .0)) → r ≡ sum-at (bytes (x .left)) k) ⌝ }
+    ensures same { λ _. ⌜ row (now (words .exit)) ≡ row (now (words .entry)) ⌝ }
+    ensures touches { λ _. ⌜ touched (now (words .exit)) ≤ touched (now (words .entry)) + 1 ⌝ }
+{
+    data_word(words, p, 7 + k)
+}
+
+/// The sum at place `k` of the rope of `p`.
+pub fn total<W: Words>(words: &mut W, p: Ref, k: usize) -> u32
+    requires rope { ⌜ Lends (row (now words)) (p .0) ⌝ }
+    requires place { ⌜ k < 6 ⌝ }
+    ensures value { λ r. ⌜ ((x : Lends (row (now (words .entry))) (p .0)) → r ≡ sum-at (bytes (x .rope)) k) ⌝ }
+    ensures same { λ _. ⌜ row (now (words .exit)) ≡ row (now (words .entry)) ⌝ }
+    ensures touches { λ _. ⌜ touched (now (words .exit)) ≤ touched (now (words .entry)) + 2 ⌝ }
+{
+    if p.is_none() {
+        return 0;
+    }
+    let tag = tag_of(words, p);
+    if tag % 64 == NODE {
+        data_word(words, p, 1 + k)
+    } else {
+        digit_of(tag, k)
+    }
+}
+
+/// How many bytes the rope of `p` has.
+pub fn len<W: Words>(words: &mut W, p: Ref) -> u32
+    requires { ⌜ Lends (row (now words)) (p .0) ⌝ }
+    ensures value { λ r. ⌜ ((x : Lends (row (now (words .entry))) (p .0)) → r ≡ size (x .rope)) ⌝ }
+    ensures same { λ _. ⌜ row (now (words .exit)) ≡ row (now (words .entry)) ⌝ }
+    ensures touches { λ _. ⌜ touched (now (words .exit)) ≤ touched (now (words .entry)) + 2 ⌝ }
+{
+    total(words, p, 0)
+}
+
+/// The sum of all bytes of the rope of `p`.
+pub fn sum<S: Sum, W: Words>(words: &mut W, p: Ref) -> u32
+    requires { ⌜ Lends (row (now words)) (p .0) ⌝ }
+    ensures value { λ r. ⌜ ((x : Lends (row (now (words .entry))) (p .0)) → r ≡ S·Sum .sums (bytes (x .rope))) ⌝ }
+    ensures same { λ _. ⌜ row (now (words .exit)) ≡ row (now (words .entry)) ⌝ }
+    ensures touches { λ _. ⌜ touched (now (words .exit)) ≤ touched (now (words .entry)) + 2 ⌝ }
+{
+    total(words, p, S::index())
 }
