@@ -7,3 +7,4 @@ pub mod Rotates
 pub mod Merges
 pub mod Attaches
 pub mod Concats
+pub mod Cuttings

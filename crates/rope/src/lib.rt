@@ -1,5 +1,6 @@
 //! Ropes of bytes in a heap of cells: making, joining and cutting them.
 mod balancing;
+mod cutting;
 mod joining;
 mod making;
 mod merging;
