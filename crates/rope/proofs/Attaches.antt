@@ -21,12 +21,12 @@ use Rattle.ropes.proofs.Depths.{height-low}
 use Rattle.ropes.proofs.Joins.{inner-whole, not-beside, pair-joined}
 use Rattle.rope.specs.declared.sided.Side.{Side}
 use Rattle.rope.specs.declared.sided.Side.the-variants.{Left, Right}
-use Rattle.rope.specs.declared.reading.Shape.{Shape}
-use Rattle.rope.specs.Coded.{code}
-use Rattle.rope.specs.Lending.{LendsSome, ShapeIs, beside}
+use Rattle.rope_cells.specs.declared.reading.Shape.{Shape}
+use Rattle.rope_cells.specs.Coded.{code}
+use Rattle.rope_cells.specs.Lending.{LendsSome, ShapeIs, beside}
 use Rattle.rope.specs.Sided.{node-on, merge-on, balance-on, rotations-on, attach}
 use Rattle.rope.specs.Building.{After, Two, Joins, Fit, Halved, Near, TwoLeaves, Onto, attach-price}
-use Rattle.rope.proofs.Codes.{nodes-code}
+use Rattle.rope_cells.proofs.Codes.{nodes-code}
 use Rattle.rope.proofs.Holds.{swap-have, back-have, have-same, lends-some, opening-on}
 use Rattle.rope.proofs.Makings.{two-swap, fit-swap, after-most}
 use Rattle.rope.proofs.Merges.{LeafView, leaf-view}

@@ -23,26 +23,16 @@ use Rattle.ropes.specs.Costs.{steps, concat-steps}
 use Rattle.ropes.proofs.Depths.{height-low}
 use Rattle.rope.specs.declared.sided.Side.{Side}
 use Rattle.rope.specs.declared.sided.Side.the-variants.{Left, Right}
-use Rattle.rope.specs.declared.reading.Shape.{Shape}
-use Rattle.rope.specs.Coded.{code}
-use Rattle.rope.specs.Lending.{LendsSome, ShapeIs}
+use Rattle.rope_cells.specs.declared.reading.Shape.{Shape}
+use Rattle.rope_cells.specs.Coded.{code}
+use Rattle.rope_cells.specs.Lending.{LendsSome, ShapeIs}
 use Rattle.rope.specs.Sided.{attach}
 use Rattle.rope.specs.Building.{After, Two, Joins, Fit, Onto, attach-price, Any, concat-price}
+use Rattle.rope_cells.proofs.Codes.{none-empty, some-height}
 use Rattle.rope.proofs.Holds.{swap-have, have-same, lends-some}
 use Rattle.rope.proofs.Makings.{some-none, fit-swap}
 
--- no reference is an empty rope
-pub none-empty : (m : List ℕ) (p : ℕ) (t : Rope) → p ≡ 0 → Val m p (code t) → t ≡ empty
-none-empty m p empty e v = refl
-none-empty m p (leaf b) e v = absurd (omega (arith, v .0))
-none-empty m p (node-of l r) e v = absurd (omega (arith, v .0))
-
-pub some-height : (m : List ℕ) (p : ℕ) (t : Rope) → p ≢ 0 → Val m p (code t) → 1 ≤ height t
-some-height m p empty e v = absurd (e v)
-some-height m p (leaf b) e v = omega arith
-some-height m p (node-of l r) e v = omega arith
-
--- and need not be held
+-- a reference to nothing need not be held
 pub drop-none : (m : List ℕ) (p : ℕ) (v : Tree) (xs : List Item) → p ≡ 0 → Have m (item p v ∷ xs) → Have m xs
 drop-none m p v xs e h = record { sound = sound-none m _ (subst (λ z. Sound m (z ∷ refs xs)) e (h .sound)); stand = h .stand .1 }
 

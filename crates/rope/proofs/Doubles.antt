@@ -14,10 +14,10 @@ use Rattle.ropes.specs.Rope.{Rope, size, height, cells, Inner, Whole}
 use Rattle.ropes.proofs.Balance.{inner-some}
 use Rattle.ropes.proofs.Joins.{inner-whole}
 use Rattle.rope.specs.declared.sided.Side.{Side}
-use Rattle.rope.specs.Coded.{code}
+use Rattle.rope_cells.specs.Coded.{code}
 use Rattle.rope.specs.Sided.{node-on, double-on}
 use Rattle.rope.specs.Building.{After, Two, Joins, Fit, Couple, Couples, Halved, Peak, Three, Joins3}
-use Rattle.rope.proofs.Codes.{nodes-code}
+use Rattle.rope_cells.proofs.Codes.{nodes-code}
 use Rattle.rope.proofs.Makings.{coupling-few}
 use Rattle.rope.proofs.Holds.{swap-have, third-have, back-have, opening-on, opt-back, opt-swap, length-opt, nodes-opt}
 use Rattle.rope.proofs.Sides.{View, view, Level, inner-level, level-whole, height-on, size-on, cells-on, double-node}

@@ -17,9 +17,9 @@ use Rattle.ropes.specs.Layout.{node-data}
 use Rattle.rope.specs.declared.sided.Side.{Side}
 use Rattle.rope.specs.declared.sided.Side.the-variants.{Left, Right}
 use Rattle.rope.specs.Sided.{node-on}
-use Rattle.rope.proofs.Codes.{nodes-code}
-use Rattle.rope.specs.Coded.{code}
-use Rattle.rope.specs.Lending.{Lends, LendsSome, LendsNode}
+use Rattle.rope_cells.proofs.Codes.{nodes-code}
+use Rattle.rope_cells.specs.Coded.{code}
+use Rattle.rope_cells.specs.Lending.{Lends, LendsSome, LendsNode}
 use Rattle.rope.specs.Building.{capacity}
 
 pub swap-have : (m : List ℕ) (x y : Item) (xs : List Item) → Have m (x ∷ (y ∷ xs)) → Have m (y ∷ (x ∷ xs))

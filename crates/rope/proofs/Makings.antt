@@ -18,12 +18,12 @@ use Rattle.ropes.specs.Layout.{sums-of, leaf-data, node-data}
 use Rattle.ropes.proofs.Cuts.{size-bytes}
 use Rattle.ropes.proofs.Depths.{height-low}
 use Rattle.ropes.proofs.Sums.{sum-small}
-use Rattle.rope.specs.Coded.{code}
-use Rattle.rope.specs.Packed.{Addable, NodeData}
-use Rattle.rope.specs.Lending.{LendsSome, SummaryIs}
+use Rattle.rope_cells.specs.Coded.{code}
+use Rattle.rope_cells.specs.Packed.{Addable, NodeData}
+use Rattle.rope_cells.specs.Lending.{LendsSome, SummaryIs}
 use Rattle.rope.specs.Building.{Two, Joins, After, Fit, Placed, Couple, coupling, Couples, Free, Leafed, giving-up}
-use Rattle.rope.specs.declared.reading.Summary.{Summary}
-use Rattle.rope.proofs.Codes.{nodes-code}
+use Rattle.rope_cells.specs.declared.reading.Summary.{Summary}
+use Rattle.rope_cells.proofs.Codes.{nodes-code}
 use Rattle.rope.proofs.Holds.{swap-have, have-same, lends-some, full-capacity}
 
 -- either rope may be read

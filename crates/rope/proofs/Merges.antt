@@ -17,12 +17,13 @@ use Rattle.ropes.proofs.Balance.{inner-some}
 use Rattle.ropes.specs.Rope.{Rope, empty, leaf, leaf-min, leaf-max, size, height, cells, Octets, Whole}
 use Rattle.ropes.specs.Rope.{node as node-of}
 use Rattle.ropes.specs.Join.{pair, merge}
-use Rattle.rope.specs.Coded.{code}
-use Rattle.rope.specs.Leaves.{LendsLeaf, LeafIs, Joined, stays, BothAre}
-use Rattle.rope.specs.declared.leaves.Leaf.{Leaf}
+use Rattle.rope_cells.specs.Coded.{code}
+use Rattle.rope_cells.specs.Leaves.{LendsLeaf, LeafIs, Joined}
+use Rattle.rope.specs.Merging.{stays, BothAre}
+use Rattle.rope_cells.specs.declared.leaves.Leaf.{Leaf}
 use Rattle.rope.specs.declared.merging.Both.{Both}
 use Rattle.rope.specs.Building.{After, Two, Joins, Fit, Couple, Couples, Free, Leafed, spread, Spreads, TwoLeaves}
-use Rattle.rope.proofs.Codes.{nodes-code}
+use Rattle.rope_cells.proofs.Codes.{nodes-code}
 use Rattle.rope.proofs.Holds.{swap-have, opt-swap, length-opt, nodes-opt, have-same, lends}
 use Rattle.rope.proofs.Makings.{coupling-few}
 

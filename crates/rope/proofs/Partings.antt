@@ -12,7 +12,7 @@ use Rattle.cells.proofs.Held.{reorder, lend}
 use Rattle.ropes.specs.Rope.{Rope}
 use Rattle.ropes.specs.Rope.{node as node-of}
 use Rattle.ropes.specs.Layout.{node-data}
-use Rattle.rope.specs.Coded.{code}
+use Rattle.rope_cells.specs.Coded.{code}
 use Rattle.rope.specs.Sided.{node-on}
 use Rattle.rope.specs.Building.{Parted, Halved}
 use Rattle.rope.specs.declared.sided.Side.the-variants.{Left, Right}

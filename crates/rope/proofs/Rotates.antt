@@ -14,12 +14,12 @@ use Rattle.ropes.specs.Rope.{Rope, size, height, cells, Inner, Whole}
 use Rattle.ropes.proofs.Balance.{inner-some}
 use Rattle.ropes.proofs.Joins.{inner-whole}
 use Rattle.rope.specs.declared.sided.Side.{Side}
-use Rattle.rope.specs.Coded.{code}
-use Rattle.rope.specs.Lending.{LendsSome, ShapeIs}
-use Rattle.rope.specs.declared.reading.Shape.{Shape}
+use Rattle.rope_cells.specs.Coded.{code}
+use Rattle.rope_cells.specs.Lending.{LendsSome, ShapeIs}
+use Rattle.rope_cells.specs.declared.reading.Shape.{Shape}
 use Rattle.rope.specs.Sided.{node-on, rotate-on, rotate-parts, double-on, balance-on, rotations-on}
 use Rattle.rope.specs.Building.{After, Two, Joins, Fit, Couple, Couples, Halved, Peak, Tilted, Leaning, Near, Three, Joins3}
-use Rattle.rope.proofs.Codes.{nodes-code}
+use Rattle.rope_cells.proofs.Codes.{nodes-code}
 use Rattle.rope.proofs.Holds.{swap-have, third-have, back-have, have-same, lends-some, opening-on, opt-next, nodes-opt}
 use Rattle.rope.proofs.Makings.{coupling-few, some-none}
 use Rattle.rope.proofs.Doubles.{inner-fit}

@@ -17,7 +17,7 @@ use Rattle.ropes.specs.Rope.{Rope, leaf, leaf-max, size, height, cells, Inner, 
 use Rattle.ropes.specs.Rope.{node as node-of}
 use Rattle.ropes.specs.Costs.{steps, concat-steps}
 use Rattle.rope.specs.declared.sided.Side.{Side}
-use Rattle.rope.specs.Coded.{code}
+use Rattle.rope_cells.specs.Coded.{code}
 use Rattle.rope.specs.Sided.{node-on, attach}
 
 -- how many cells a row of so many words has room for, the header's 8 among them

@@ -1,6 +1,4 @@
-pub mod Packed
-pub mod Coded
-pub mod Lending
-pub mod Leaves
 pub mod Sided
 pub mod Building
+pub mod Merging
+pub mod Cutting

@@ -7,9 +7,9 @@ ghost use Rattle.rope.specs.Building.{Two, Joins, Three, Joins3, Peak, Tilted,
 use crate::making::both_on;
 use crate::making::node_on;
 use crate::parting::halve;
-use crate::reading::shapes_of;
 use crate::sided::Side;
 use cells::Ref;
+use rope_cells::shapes_of;
 use words::Words;
 
 /// Three parts as two nodes in one: `b` is parted between `a` and `c`.

@@ -2,7 +2,7 @@
 ghost use mathlib.Core.Path.{_≡_};
 ghost use Prim.Native.Nat.{ℕ, _+_, _*_, _<_, _≤_};
 ghost use Rattle.cells.specs.Steps.{Kept};
-ghost use Rattle.rope.specs.Lending.{beside};
+ghost use Rattle.rope_cells.specs.Lending.{beside};
 ghost use Rattle.rope.specs.Sided.{merge-on, attach as attached};
 ghost use Rattle.ropes.specs.Join.{concat as concatenated};
 ghost use Rattle.rope.specs.Building.{Two, Joins, TwoLeaves, Onto, attach-price, Any, concat-price};
@@ -10,11 +10,11 @@ use crate::balancing::balance;
 use crate::making::node_on;
 use crate::merging::merge;
 use crate::parting::halve;
-use crate::reading::Shape;
-use crate::reading::shapes_of;
 use crate::sided::Side;
 use cells::Ref;
 use cells::release;
+use rope_cells::Shape;
+use rope_cells::shapes_of;
 use words::Words;
 
 /// Two leaves as one, or as two, the second on this side.

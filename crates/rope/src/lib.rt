@@ -1,17 +1,10 @@
-//! Ropes of bytes in a heap of cells.
+//! Ropes of bytes in a heap of cells: making, joining and cutting them.
 mod balancing;
+mod cutting;
 mod joining;
-mod leaves;
 mod making;
 mod merging;
-mod packed;
 mod parting;
-mod reading;
 mod sided;
-mod sums;
 
-pub use sums::Bytes;
-pub use sums::BytesSum;
-pub use sums::LineEnds;
-pub use sums::LineEndsSum;
-pub use sums::Sum;
+pub use joining::concat;

@@ -8,15 +8,15 @@ ghost use Rattle.ropes.specs.Rope.{node as node-of};
 ghost use Rattle.ropes.specs.Layout.{node-data as data-of-node};
 ghost use Rattle.rope.specs.Sided.{node-on};
 ghost use Rattle.rope.specs.Building.{Two, Joins, Fit, Placed, Couple, Couples, Free, Leafed};
-use crate::packed::node_data;
-use crate::packed::pack;
-use crate::reading::summary_of;
 use crate::sided::Side;
 use cells::Data;
 use cells::NONE;
 use cells::Ref;
 use cells::alloc;
 use cells::release;
+use rope_cells::node_data;
+use rope_cells::pack;
+use rope_cells::summary_of;
 use words::Words;
 
 /// A cell with these children and data; where there is no room, the children are let go.

@@ -6,17 +6,17 @@ ghost use lib.Dec.{leb, ltb};
 ghost use lib.ListN.{length};
 ghost use Rattle.cells.specs.Steps.{Kept, Making, Dropped};
 ghost use Rattle.ropes.specs.Join.{merge as merged};
-ghost use Rattle.rope.specs.Leaves.{stays, BothAre};
+ghost use Rattle.rope.specs.Merging.{stays, BothAre};
 ghost use Rattle.rope.specs.Building.{Two, Joins, Free, TwoLeaves, Spreads};
-use crate::leaves::joined;
-use crate::leaves::read_leaf;
 use crate::making::both_on;
 use crate::making::leaf;
 use crate::making::node;
-use crate::packed::LEAF_MAX;
 use crate::sided::Side;
 use cells::Ref;
 use cells::release;
+use rope_cells::LEAF_MAX;
+use rope_cells::joined;
+use rope_cells::read_leaf;
 use words::Words;
 
 /// How many bytes a leaf has at least beside other leaves.

@@ -4,7 +4,7 @@ use mathlib.Core.Bool.{true, false}
 use native.Mathlib.Omega.{arith}
 use Rattle.cells.specs.Steps.{Kept}
 use Rattle.cells.proofs.Sharings.{kept-on}
-use Rattle.rope.specs.Lending.{beside}
+use Rattle.rope_cells.specs.Lending.{beside}
 use Rattle.rope.proofs.Attaches.{host-some, guest-some, guest-low, onto-leaves, attached-leaf, onto-node, attached-node, Hosts, hosts, host-opening, host-fuel, inner-two, outer-two, outer-holding, attached-some, attached-none, attached-inside}
 use Rattle.rope.proofs.joining.+attach.Needs as need
 

@@ -1,7 +1,7 @@
 use borrow.Author.Needs.{needs}
 use mathlib.Core.Path.{_≡_}
 use native.Mathlib.Omega.{arith}
-use Rattle.rope.specs.Lending.{LendsSome, SummaryIs}
+use Rattle.rope_cells.specs.Lending.{LendsSome, SummaryIs}
 use Rattle.rope.specs.Building.{Two, Fit}
 use Rattle.rope.proofs.Makings.{left-some, right-some, children-data, heights-low, sums-addable}
 use Rattle.rope.proofs.making.data_of.Needs as need

@@ -6,7 +6,7 @@ use mathlib.Core.Bool.{true, false}
 use native.Mathlib.Omega.{arith}
 use Rattle.cells.specs.Steps.{Kept}
 use Rattle.cells.proofs.Sharings.{kept-on}
-use Rattle.rope.specs.Leaves.{stays}
+use Rattle.rope.specs.Merging.{stays}
 use Rattle.rope.proofs.Merges.{both-few, merge-fit, merged-node, merge-making, merge-free, merged-spread}
 use Rattle.rope.proofs.merging.merge.Needs as need
 

@@ -1,7 +1,7 @@
 use borrow.Author.Needs.{needs}
 use native.Mathlib.Omega.{arith}
 use mathlib.Core.Path.{_≡_}
-use Rattle.rope.specs.Leaves.{LendsLeaf, LeafIs}
+use Rattle.rope_cells.specs.Leaves.{LendsLeaf, LeafIs}
 use Rattle.rope.proofs.Merges.{left-leaf, right-leaf, both-are}
 use Rattle.rope.proofs.merging.read_both.Needs as need
 

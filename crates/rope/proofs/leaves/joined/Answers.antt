@@ -1,6 +1,0 @@
-use mathlib.Core.Path.{refl}
-use Rattle.rope.proofs.Leavings.{leaves-joined}
-use Rattle.rope.proofs.leaves.joined.Needs as need
-
-pub returns : need.returns
-returns c = leaves-joined (c .args .a) (c .args .b) _ _ _ refl (c .pre) (c .write-leaf .ensures) (c .write-leaf-2 .ensures)

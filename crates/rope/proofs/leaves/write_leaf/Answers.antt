@@ -1,9 +1,0 @@
-use borrow.Author.Needs.{needs}
-use native.Mathlib.Omega.{arith}
-use Rattle.rope.proofs.Leavings.{written}
-use Rattle.rope.proofs.leaves.write_leaf.Needs as need
-
-pub returns : need.returns
-returns c =
-    let e = c .copy-from-slice .ensures in
-    written (c .args .into .now) _ (c .args .at) _ (c .args .leaf .now) (c .pre .0) (omega arith) (search needs) (e .after)

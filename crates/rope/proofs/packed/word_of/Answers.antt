@@ -1,7 +1,0 @@
-use mathlib.Core.Path.{refl}
-use Rattle.ropes.specs.Layout.{word}
-use Rattle.rope.proofs.packed.word_of.Needs as need
-
-pub returns : need.returns
-unfolding word
-returns c = refl
