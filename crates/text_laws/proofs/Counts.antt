@@ -8,7 +8,8 @@ use native.Mathlib.Numerals.{add-one}
 use lib.ListN.{length}
 use Rattle.std.proofs.shelf.Tests.{cases-lt, cond-false, not-from-true, not-false, cases-bool}
 use Rattle.spec.specs.Bytes.{is-newline}
-use Rattle.spec.specs.Text.{Text, byte, is-in-line, line-end, line-start, newlines, line-of, line-count, nth-line}
+use Rattle.spec.specs.Text.{Text, byte, is-in-line, line-end, line-start, newlines, line-of, line-count, nth-line, first-nonblank}
+use Rattle.spec.specs.Motions.{linewise, target, to-line}
 use Rattle.laws.proofs.TextLines.{line-end-within-line, line-start-is, line-start-down, line-end-up, line-end-within, line-start-behind, nth-line-within, nth-line-start}
 use Rattle.laws.proofs.TextCounts.{line-of-suc, line-of-end, line-of-within, line-of-behind, line-of-last, line-of-nth-line, nth-line-line-of, line-start-unique}
 
@@ -68,3 +69,10 @@ nth-line-some t l h = rw add-one (omega (arith, nth-line-end-before t l h))
 pub line-end-nth-line : (t : Text) (a : ℕ) → a ≤ length t → line-end t (nth-line t (line-of t a)) ≡ line-end t a
 line-end-nth-line t a h =
     ap (line-end t) (nth-line-line-of t a h) ∙ line-end-within-line t a (line-start t a) h (omega arith) (omega (arith, line-start-down t a, line-end-up t a))
+
+-- behind the last line G and gg lead to the last, as nth-line does
+pub to-line-is : (t : Text) (l : ℕ) → to-line t l ≡ target (first-nonblank t (nth-line t l)) linewise
+unfolding to-line line-count
+to-line-is t l =
+    let s : suc (newlines t) - 1 ≡ newlines t = omega arith in
+    rw s (ap (λ a. target (first-nonblank t a) linewise) (sym (nth-line-last t l)))

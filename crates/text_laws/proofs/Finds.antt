@@ -1,5 +1,5 @@
 -- Bytes found in a line by scans.
-use mathlib.Core.Path.{_≡_, refl, sym, ap, _∙_}
+use mathlib.Core.Path.{_≡_, refl, sym, ap, subst, _∙_}
 use mathlib.Core.Bool.{Bool, true, false, _||_, not, cond}
 use mathlib.Core.List.{[], _∷_}
 use mathlib.Core.Logic.{⊎-elim}
@@ -13,8 +13,9 @@ use Rattle.std.proofs.shelf.Tests.{cond-true, cond-false, cases-lt, or-parts, o
 use Rattle.std.proofs.shelf.Lists.{getD-past}
 use Rattle.spec.specs.Bytes.{newline, is-newline}
 use Rattle.spec.specs.Text.{Text, byte, part, is-in-line, line-end, line-start}
-use Rattle.spec.specs.Motions.{nth-found, find-in-line}
+use Rattle.spec.specs.Motions.{inclusive, target, nth-found, find-in-line, found-by}
 use Rattle.laws.proofs.TextLines.{Pass, at-line-end, line-end-is, line-end-within-line, line-start-down, line-end-up, in-text, before-line-end, line-end-within}
+use Rattle.laws.proofs.TextMotions.{Each, Between, find-in-line-between}
 use Rattle.text_laws.specs.Scans.{until, Forward}
 use Rattle.text_laws.specs.Finds.{found-from, FoundNone, FoundAt}
 
@@ -108,3 +109,16 @@ found-no-more c t n i a l h =
 
 pub found-from-none : (c : ℕ) (t : Text) (n i a : ℕ) → n ≤ i → found-from c (n - i) t a ≡ some a
 found-from-none c t n i a h = cond-true (eqb (n - i) 0) _ _ (eq-eqb (n - i) 0 (omega arith))
+
+-- Where f and t lead.
+
+pub found-by-none : (back c : ℕ) (t : Text) (a n : ℕ) → none ≡ find-in-line c n t a → none ≡ found-by back c t a n
+unfolding found-by
+found-by-none back c t a n e = rw (sym e)
+
+pub found-by-some : (back c : ℕ) (t : Text) (a n b : ℕ) → some b ≡ find-in-line c n t a → target (b - back) inclusive ≡ found-by back c t a n
+unfolding found-by
+found-by-some back c t a n b e = rw (sym e)
+
+pub found-ahead : (c : ℕ) (t : Text) (a n b : ℕ) → some b ≡ find-in-line c n t a → a < b
+found-ahead c t a n b e = subst (Each (Between (suc a) (line-end t a))) (sym e) (find-in-line-between c n t a) .from

@@ -3,3 +3,4 @@ pub mod Words
 pub mod Finds
 pub mod Counts
 pub mod Chunks
+pub mod Rows

@@ -12,9 +12,9 @@ use Rattle.std.proofs.shelf.Tests.{cond-both, cases-lt, cond-true, cond-false, 
 use Rattle.std.proofs.shelf.Ways.{tells}
 use Rattle.std.proofs.shelf.Lists.{drop-all}
 use Rattle.spec.specs.Bytes.{newline, is-newline, is-blank, is-white}
-use Rattle.spec.specs.Text.{Text, byte, skip-forward, skip-back, is-in-line, line-start, line-end, last-in-line, first-nonblank}
+use Rattle.spec.specs.Text.{Text, byte, skip-forward, skip-back, is-in-line, line-start, line-end, column, last-in-line, first-nonblank}
 use Rattle.spec.specs.Motions.{is-empty-line, white-span, skip-white, skip-white-back}
-use Rattle.laws.proofs.TextLines.{skip-forward-is, skip-back-is, skip-back-down, line-start-down, line-end-up, at-line-end}
+use Rattle.laws.proofs.TextLines.{skip-forward-is, skip-forward-up, skip-back-is, skip-back-down, line-start-down, line-end-up, at-line-end, line-start-within-line, last-in-line-from, last-in-line-to}
 use Rattle.text_laws.specs.Scans.{before, Test, alone, white-between, Forward, Backward}
 
 -- a line begins behind a line end
@@ -94,3 +94,12 @@ first-nonblank-scan t a b h = ap (λ n. min n (last-in-line t a)) (skip-forward-
 pub blanks-passed : (t : Text) (a b : ℕ) → a ≤ length t → Forward (alone is-blank) t (line-start t a) b → b ≤ suc (min b (last-in-line t a))
 unfolding last-in-line
 blanks-passed t a b h s = let l : b ≤ line-end t a = blanks-end t a b h s in grind (arith, tells)
+
+-- and how many there are is its column
+pub first-nonblank-column : (t : Text) (a : ℕ) → a ≤ length t → first-nonblank t a - line-start t a ≡ column t (first-nonblank t a)
+unfolding first-nonblank column
+first-nonblank-column t a h =
+    let from : line-start t a ≤ last-in-line t a = last-in-line-from t a in
+    let b : line-start t a ≤ skip-forward is-blank t (line-start t a) = skip-forward-up is-blank t (line-start t a) in
+    let to : min (skip-forward is-blank t (line-start t a)) (last-in-line t a) ≤ line-end t a = omega (arith, last-in-line-to t a) in
+    ap (λ n. min (skip-forward is-blank t (line-start t a)) (last-in-line t a) - n) (sym (line-start-within-line t a (min (skip-forward is-blank t (line-start t a)) (last-in-line t a)) h (omega arith) to))
