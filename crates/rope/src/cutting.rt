@@ -72,3 +72,16 @@ fn with_front<W: Words>(words: &mut W, left: Ref, front: Ref, back: Ref) -> Opti
         }
     }
 }
+
+/// A leaf cut inside.
+fn split_leaf<W: Words>(words: &mut W, t: Ref, at: usize) -> Option<Cut>
+    requires { ⌜ One (LeafCut at) (row (now words)) (t .0) 160 ⌝ }
+    ensures cuts { λ d. ⌜ Cuts (LeafCut at) at (row (now (words .entry))) (row (now (words .exit))) (t .0) d (touched (now (words .entry))) (touched (now (words .exit))) ⌝ }
+    ensures kept { λ _. ⌜ Kept (row (now (words .entry))) (row (now (words .exit))) ⌝ }
+{
+    let all = read_leaf(words, t);
+    release(words, t);
+    let x = leaf(words, &all.bytes[0..at]);
+    let y = leaf(words, &all.bytes[at..all.len]);
+    pair_up(words, x, y)
+}

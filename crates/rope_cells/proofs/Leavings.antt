@@ -7,7 +7,7 @@ use native.Mathlib.Omega.{arith}
 use lib.ListN.{length, getD, take, drop, length-take, length-drop, length-append}
 use borrow.Rule.Slice.PartMut.{putMid}
 use Rattle.std.proofs.shelf.Tests.{cases-lt}
-use Rattle.std.proofs.shelf.Lists.{ext-getD, getD-take, getD-append-left, getD-append-right}
+use Rattle.std.proofs.shelf.Lists.{ext-getD, getD-take, getD-drop, getD-append-left, getD-append-right}
 use Rattle.cells.specs.Tree.{none}
 use Rattle.cells.specs.Have.{Lent}
 use Rattle.cells.specs.Steps.{WordsRead}
@@ -28,6 +28,7 @@ leaf-read m p w ys read back x =
     record {
       long = ap (λ z. getD z 0 0 % 64) is ∙ (ap (λ z. z % 64) (leaf-first (x .xs)) ∙ leaf-tag-low (x .xs) (ok .1));
       few = ok .1;
+      room = back .long;
       each = back .each (x .xs) (ok .2) is;
     }
 
@@ -67,3 +68,24 @@ leaves-joined a b zero one two room fits first second =
           ∙ (second .here (i - a .len) (omega arith) ∙ (is-b .each (i - a .len) (omega arith) ∙ sym (getD-append-right xs zs (a .len) i 0 (sym la) q))))
           (cases-lt i (a .len)));
     }
+
+-- the bytes of a leaf before place i, and from it on
+pub leaf-front : (s : Leaf) (xs : List ℕ) (i : ℕ) → LeafIs s xs → i ≤ length xs → take i (s .bytes) ≡ take i xs
+leaf-front s xs i a h =
+    let f = a .few in
+    let r = a .room in
+    ext-getD 0 (take i (s .bytes)) (take i xs) (omega (arith, length-take i (s .bytes), length-take i xs))
+    (λ j k.
+    let lt : j < i = omega (arith, length-take i (s .bytes)) in
+    getD-take i (s .bytes) j 0 lt ∙ (a .each j (omega arith) ∙ sym (getD-take i xs j 0 lt)))
+
+pub leaf-back : (s : Leaf) (xs : List ℕ) (i : ℕ) → LeafIs s xs → take (s .len - i) (drop i (s .bytes)) ≡ drop i xs
+leaf-back s xs i a =
+    let n = s .len - i in
+    let f = a .few in
+    let r = a .room in
+    let l = a .long in
+    ext-getD 0 (take n (drop i (s .bytes))) (drop i xs) (omega (arith, length-take n (drop i (s .bytes)), length-drop i (s .bytes), length-drop i xs))
+    (λ j k.
+    let lt : j < n = omega (arith, length-take n (drop i (s .bytes))) in
+    getD-take n (drop i (s .bytes)) j 0 lt ∙ (getD-drop i (s .bytes) j 0 ∙ (a .each (i + j) (omega arith) ∙ sym (getD-drop i xs j 0))))

@@ -56,9 +56,10 @@ leaf-data-is w xs long first each = ext-getD 0 w (leaf-data xs) (long ∙ sym (l
     go zero h = first ∙ sym (leaf-first xs)
     go (suc j) h = let e : suc j ≡ 1 + j = omega arith in rw e (each j (omega arith) ∙ sym (leaf-word xs j (omega arith)))
 
-pub bytes-back : (w ys : List ℕ) → ((j : ℕ) → j < leaf-max → getD ys j 0 ≡ byte-of (getD w (1 + j / 4) 0) (j % 4)) → BytesBack w ys
-bytes-back w ys each =
+pub bytes-back : (w ys : List ℕ) → length ys ≡ leaf-max → ((j : ℕ) → j < leaf-max → getD ys j 0 ≡ byte-of (getD w (1 + j / 4) 0) (j % 4)) → BytesBack w ys
+bytes-back w ys long each =
     record {
+      long = long;
       each = λ xs o is i h.
           let at : 4 * (i / 4) + i % 4 ≡ i = omega arith in
           each i h

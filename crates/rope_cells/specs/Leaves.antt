@@ -17,6 +17,7 @@ pub record LendsLeaf (m : List ℕ) (p : ℕ) : Type 0 where
 pub record LeafIs (s : Leaf) (xs : List ℕ) : Type 0 where
   pub long : s .len ≡ length xs
   pub few : length xs ≤ leaf-max
+  pub room : length (s .bytes) ≡ leaf-max
   pub each : (i : ℕ) → i < leaf-max → getD (s .bytes) i 0 ≡ getD xs i 0
 
 -- from old to new the leaf's bytes were written from `at` on

@@ -18,6 +18,7 @@ pub record SumsBack (tag : ℕ) (s : List ℕ) : Type 0 where
 
 -- ys are the bytes of the leaf with these data, zeros behind
 pub record BytesBack (w ys : List ℕ) : Type 0 where
+  pub long : length ys ≡ leaf-max
   pub each : (xs : List ℕ) → Octets xs → w ≡ leaf-data xs → (i : ℕ) → i < leaf-max → getD ys i 0 ≡ getD xs i 0
 
 -- sums of two ropes that stand side by side

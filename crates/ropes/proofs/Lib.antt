@@ -10,3 +10,4 @@ pub mod Edits
 pub mod Builds
 pub mod Packs
 pub mod Sums
+pub mod Ends

@@ -19,4 +19,4 @@ loop-i-again c =
     )
 
 pub returns : need.returns
-returns c = bytes-back (c .args .data) (c .loop-i .bytes) (λ j h. c .loop-i .inv .1 j (omega arith))
+returns c = bytes-back (c .args .data) (c .loop-i .bytes) (c .loop-i .inv .0) (λ j h. c .loop-i .inv .1 j (omega arith))
