@@ -25,13 +25,13 @@ use Rattle.ropes.proofs.Descents.{cut-left, cut-right}
 use Rattle.ropes.proofs.Ends.{inner-size, front-zero, back-zero, front-all, back-all, front-left, front-right, back-left, back-right}
 use Rattle.ropes.proofs.Sums.{sum-first}
 use Rattle.rope_cells.specs.Coded.{code}
-use Rattle.rope_cells.specs.Lending.{LendsSome, LendsChildren, ShapeIs}
+use Rattle.rope_cells.specs.Lending.{Lends, LendsSome, LendsChildren, ShapeIs}
 use Rattle.rope_cells.specs.declared.reading.Shape.{Shape}
 use Rattle.rope_cells.proofs.Codes.{nodes-code}
 use Rattle.rope.specs.declared.cutting.Cut.{Cut}
 use Rattle.rope.specs.declared.sided.Side.the-variants.{Left, Right}
 use Rattle.rope.specs.Building.{Any, concat-price, Halved}
-use Rattle.rope.specs.Cutting.{parts, AfterCut, One, Sized, LeafCut, Cuts, cut-price, Beside, JoinsBack, JoinsFront}
+use Rattle.rope.specs.Cutting.{parts, AfterCut, One, Sized, Short, LeafCut, Cuts, Splits, cut-price, Beside, JoinsBack, JoinsFront}
 use Rattle.rope.proofs.Holds.{swap-have, third-have, back-have, have-same, lends, lends-some, opening-on}
 use Rattle.rope.proofs.Merges.{LeafView, leaf-view}
 use Rattle.rope.proofs.Sides.{View, view}
@@ -323,3 +323,18 @@ module _ (s at : ℕ) (some : 1 ≤ at) (inside : at < s) (m : List ℕ) (p : �
                   full = λ z. omega (arith, q .full refl, nodes-code (x .l), ap length same);
                   cost = omega (arith, q .cost, ap height fr, ap height bk, cut-right (x .l) (x .r) j i);
                 }
+
+-- a rope whose length is read first
+module _ (m : List ℕ) (p at : ℕ) where
+  abbrev pub short-lends : One Short m p 160 → Lends m p
+  short-lends x = lends m p (x .t) (x .rest) (x .fit .whole) (x .fit .few) (x .have)
+
+  module _ (s : ℕ) (is-s : (x : Lends m p) → s ≡ size (x .rope)) (m1 : List ℕ) (same : m1 ≡ m) (n n1 : ℕ) (reads : n1 ≤ n + 2) where
+    abbrev pub short-sized : One Short m p 160 → One (Sized s) m1 p 160
+    short-sized x =
+        let e = is-s (short-lends x) in
+        record { t = x .t; rest = x .rest; fit = record { whole = x .fit .whole; long = sym e; few = omega (arith, e, x .fit .few) }; have = have-same m m1 _ same (x .have); few = x .few }
+
+    pub splits : (m2 : List ℕ) (d : Option Cut) (n2 : ℕ) → Cuts (Sized s) (cut-price at) at m1 m2 p d n1 n2 → Splits at m m2 p d n n2
+    splits m2 d n2 last =
+        record { runs = λ x. let o = last .runs (short-sized x) in record { have = o .have; full = λ e. omega (arith, o .full e, ap length same); cost = omega (arith, o .cost) } }
