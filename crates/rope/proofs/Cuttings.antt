@@ -141,7 +141,7 @@ module _ (m : List ℕ) (p at : ℕ) where
               }
 
           pub leaf-cuts : ((x : One (LeafCut at) m p 160) → fs ≡ take at (x .fit .xs)) → ((x : One (LeafCut at) m p 160) → bs ≡ drop at (x .fit .xs))
-              → (m5 : List ℕ) (c : Option Cut) (n5 : ℕ) → Pairs m4 m5 d e c n4 n5 → Cuts (LeafCut at) at m m5 p c n n5
+              → (m5 : List ℕ) (c : Option Cut) (n5 : ℕ) → Pairs m4 m5 d e c n4 n5 → Cuts (LeafCut at) (λ _. 100) at m m5 p c n n5
           unfolding front back
           leaf-cuts is-f is-b m5 c n5 last =
               record {

@@ -8,3 +8,4 @@ pub mod Merges
 pub mod Attaches
 pub mod Concats
 pub mod Cuttings
+pub mod Splits

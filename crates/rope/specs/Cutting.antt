@@ -45,12 +45,21 @@ pub record Sized (n : ℕ) (t : Rope) : Type 0 where
   pub long : size t ≡ n
   pub few : n < 536870912
 
-abbrev pub cut-price : Rope → ℕ → ℕ
-cut-price t at = 250 * height t + 52 * (height (front t at) + height (back t at))
+-- a rope of few enough bytes
+pub record Short (t : Rope) : Type 0 where
+  pub whole : Whole t
+  pub few : size t < 536870912
+
+abbrev pub cut-price : ℕ → Rope → ℕ
+cut-price at t = 250 * height t + 52 * (height (front t at) + height (back t at))
 
 -- of a rope of which F holds both parts were made
-pub record Cuts (F : Rope → Type 0) (at : ℕ) (m m′ : List ℕ) (p : ℕ) (d : Option Cut) (before after : ℕ) : Type 0 where
-  pub runs : (x : One F m p 160) → AfterCut m m′ d (front (x .t) at) (back (x .t) at) (x .rest) (cells (x .t) + all-nodes (x .rest) + 1) after (before + cut-price (x .t) at)
+pub record Cuts (F : Rope → Type 0) (price : Rope → ℕ) (at : ℕ) (m m′ : List ℕ) (p : ℕ) (d : Option Cut) (before after : ℕ) : Type 0 where
+  pub runs : (x : One F m p 160) → AfterCut m m′ d (front (x .t) at) (back (x .t) at) (x .rest) (cells (x .t) + all-nodes (x .rest) + 1) after (before + price (x .t))
+
+-- and counted what they cost together with the length
+pub record Splits (at : ℕ) (m m′ : List ℕ) (p : ℕ) (d : Option Cut) (before after : ℕ) : Type 0 where
+  pub runs : (x : One Short m p 160) → AfterCut m m′ d (front (x .t) at) (back (x .t) at) (x .rest) (cells (x .t) + all-nodes (x .rest) + 1) after (before + (cut-price at (x .t) + 2))
 
 -- a leaf that is cut inside
 pub record LeafCut (at : ℕ) (t : Rope) : Type 0 where

@@ -2,7 +2,7 @@
 ghost use mathlib.Core.Path.{_≡_};
 ghost use Prim.Native.Nat.{ℕ, _+_, _<_, _≤_};
 ghost use Rattle.cells.specs.Steps.{Kept};
-ghost use Rattle.rope.specs.Cutting.{One, Sized, Cuts, LeafCut, Beside, JoinsBack, JoinsFront, Pairing, Pairs};
+ghost use Rattle.rope.specs.Cutting.{One, Sized, Short, cut-price, Cuts, Splits, LeafCut, Beside, JoinsBack, JoinsFront, Pairing, Pairs};
 use crate::joining::concat;
 use crate::making::leaf;
 use crate::parting::halve;
@@ -76,7 +76,7 @@ fn with_front<W: Words>(words: &mut W, left: Ref, front: Ref, back: Ref) -> Opti
 /// A leaf cut inside.
 fn split_leaf<W: Words>(words: &mut W, t: Ref, at: usize) -> Option<Cut>
     requires { ⌜ One (LeafCut at) (row (now words)) (t .0) 160 ⌝ }
-    ensures cuts { λ d. ⌜ Cuts (LeafCut at) at (row (now (words .entry))) (row (now (words .exit))) (t .0) d (touched (now (words .entry))) (touched (now (words .exit))) ⌝ }
+    ensures cuts { λ d. ⌜ Cuts (LeafCut at) (λ _. 100) at (row (now (words .entry))) (row (now (words .exit))) (t .0) d (touched (now (words .entry))) (touched (now (words .exit))) ⌝ }
     ensures kept { λ _. ⌜ Kept (row (now (words .entry))) (row (now (words .exit))) ⌝ }
 {
     let all = read_leaf(words, t);
@@ -84,4 +84,56 @@ fn split_leaf<W: Words>(words: &mut W, t: Ref, at: usize) -> Option<Cut>
     let x = leaf(words, &all.bytes[0..at]);
     let y = leaf(words, &all.bytes[at..all.len]);
     pair_up(words, x, y)
+}
+
+/// A rope of `size` bytes cut at place `at`.
+fn split_sized<W: Words>(words: &mut W, t: Ref, size: u32, at: u32) -> Option<Cut>
+    requires { ⌜ One (Sized size) (row (now words)) (t .0) 160 ⌝ }
+    ensures cuts { λ d. ⌜ Cuts (Sized size) (cut-price at) at (row (now (words .entry))) (row (now (words .exit))) (t .0) d (touched (now (words .entry))) (touched (now (words .exit))) ⌝ }
+    ensures kept { λ _. ⌜ Kept (row (now (words .entry))) (row (now (words .exit))) ⌝ }
+{
+    if at == 0 {
+        return Some(Cut {
+            front: NONE,
+            back: t,
+        });
+    }
+    if at >= size {
+        return Some(Cut {
+            front: t,
+            back: NONE,
+        });
+    }
+    if shape_of(words, t).height == 1 {
+        return split_leaf(words, t, at as usize);
+    }
+    let middle = left_sum(words, t, 0);
+    let n = halve(words, Side::Right, t);
+    if at < middle {
+        match split_sized(words, n.first, middle, at) {
+            Some(cut) => with_back(words, cut.front, cut.back, n.second),
+            None => {
+                release(words, n.second);
+                None
+            }
+        }
+    } else {
+        match split_sized(words, n.second, size - middle, at - middle) {
+            Some(cut) => with_front(words, n.first, cut.front, cut.back),
+            None => {
+                release(words, n.first);
+                None
+            }
+        }
+    }
+}
+
+/// The rope cut at place `at`.
+pub fn split<W: Words>(words: &mut W, t: Ref, at: u32) -> Option<Cut>
+    requires { ⌜ One Short (row (now words)) (t .0) 160 ⌝ }
+    ensures cuts { λ d. ⌜ Splits at (row (now (words .entry))) (row (now (words .exit))) (t .0) d (touched (now (words .entry))) (touched (now (words .exit))) ⌝ }
+    ensures kept { λ _. ⌜ Kept (row (now (words .entry))) (row (now (words .exit))) ⌝ }
+{
+    let size = len(words, t);
+    split_sized(words, t, size, at)
 }

@@ -7,4 +7,6 @@ mod merging;
 mod parting;
 mod sided;
 
+pub use cutting::Cut;
+pub use cutting::split;
 pub use joining::concat;
