@@ -1,0 +1,12 @@
+pub mod Lists
+pub mod Rows
+pub mod Tallies
+pub mod Changes
+pub mod Held
+pub mod Sharings
+pub mod Trees
+pub mod Makings
+pub mod Extends
+pub mod Reaches
+pub mod Openings
+pub mod Headers

@@ -1,0 +1,32 @@
+//! Immutable cells with counts in a row of words.
+mod cell;
+mod content;
+mod header;
+mod holding;
+mod laws;
+mod making;
+mod reading;
+
+pub use cell::NONE;
+pub use cell::Ref;
+pub use content::Data;
+pub use header::attach;
+pub use header::new;
+pub use header::root;
+pub use header::scalar;
+pub use header::set_root;
+pub use header::set_scalar;
+pub use holding::release;
+pub use holding::share;
+pub use laws::cells_are_counted;
+pub use laws::held_have_trees;
+pub use laws::longer_row_holds;
+pub use laws::no_cell_is_lost;
+pub use making::Node;
+pub use making::alloc;
+pub use making::make;
+pub use making::open;
+pub use reading::data_word;
+pub use reading::data_words;
+pub use reading::left;
+pub use reading::right;

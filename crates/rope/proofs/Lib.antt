@@ -1,0 +1,10 @@
+pub mod Holds
+pub mod Makings
+pub mod Partings
+pub mod Sides
+pub mod Doubles
+pub mod Rotates
+pub mod Merges
+pub mod Attaches
+pub mod Concats
+pub mod Cuttings

@@ -1,0 +1,4 @@
+pub mod Sided
+pub mod Building
+pub mod Merging
+pub mod Cutting

@@ -1,0 +1,3 @@
+pub mod Packings
+pub mod Codes
+pub mod Leavings

@@ -1,0 +1,4 @@
+pub mod Packed
+pub mod Coded
+pub mod Lending
+pub mod Leaves

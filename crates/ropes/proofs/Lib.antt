@@ -1,0 +1,13 @@
+pub mod Bytes
+pub mod Balance
+pub mod Joins
+pub mod Rotations
+pub mod Cuts
+pub mod Depths
+pub mod Counts
+pub mod Descents
+pub mod Edits
+pub mod Builds
+pub mod Packs
+pub mod Sums
+pub mod Ends
