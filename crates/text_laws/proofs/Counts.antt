@@ -76,3 +76,9 @@ unfolding to-line line-count
 to-line-is t l =
     let s : suc (newlines t) - 1 ≡ newlines t = omega arith in
     rw s (ap (λ a. target (first-nonblank t a) linewise) (sym (nth-line-last t l)))
+
+-- behind the last line none begins
+pub nth-line-stays : (t : Text) (l : ℕ) → newlines t ≤ l → nth-line t l ≡ nth-line t (l + 1)
+nth-line-stays t l h =
+    let e : min l (newlines t) ≡ min (l + 1) (newlines t) = omega arith in
+    nth-line-last t l ∙ (ap (nth-line t) e ∙ sym (nth-line-last t (l + 1)))

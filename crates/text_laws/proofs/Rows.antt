@@ -35,18 +35,23 @@ columns-are t a e n c =
     let s : e - a - c ≡ e - (a + c) = omega arith in
     ap (take n) (drop-of-take c (e - a) (drop a t)) ∙ take-of-take n (e - a - c) (drop c (drop a t)) ∙ rw (drop-drop c a t, s)
 
-pub columns-shown : (t : Text) (a e n c k : ℕ) → e ≤ length t → k ≡ min n (e - (a + c)) → fitted n (map shown (take n (drop c (part t a e)))) ≡ map shown (take k (drop (a + c) t)) ++ replicate (n - k) blank
-columns-shown t a e n c k h q =
-    let l : length (take k (drop (a + c) t)) ≡ k = omega (arith, length-take k (drop (a + c) t), length-drop (a + c) t) in
-    let m : length (map shown (take k (drop (a + c) t))) ≡ k = length-map (take k (drop (a + c) t)) shown ∙ l in
-    rw (columns-are t a e n c, ← q) (fitted-is n (map shown (take k (drop (a + c) t))) (omega arith) ∙ rw m)
+-- from the place of that column, or the end
+columns-from : (t : Text) (a e n c f k : ℕ) → f ≡ min (a + c) e → k ≡ min n (e - f) → take (min n (e - (a + c))) (drop (a + c) t) ≡ take k (drop f t)
+columns-from t a e n c f k p q =
+    ⊎-elim (λ (h : a + c < e). let s : f ≡ a + c = omega arith in let r : min n (e - (a + c)) ≡ k = omega arith in rw (r, s)) (λ (h : e ≤ a + c). let r : min n (e - (a + c)) ≡ 0 = omega arith in let s : k ≡ 0 = omega arith in rw (r, s)) (cases-lt (a + c) e)
+
+pub columns-shown : (t : Text) (a e n c f k : ℕ) → e ≤ length t → f ≡ min (a + c) e → k ≡ min n (e - f) → fitted n (map shown (take n (drop c (part t a e)))) ≡ map shown (take k (drop f t)) ++ replicate (n - k) blank
+columns-shown t a e n c f k h p q =
+    let l : length (take k (drop f t)) ≡ k = omega (arith, length-take k (drop f t), length-drop f t) in
+    let m : length (map shown (take k (drop f t))) ≡ k = length-map (take k (drop f t)) shown ∙ l in
+    ap (λ xs. fitted n (map shown xs)) (columns-are t a e n c ∙ columns-from t a e n c f k p q) ∙ (fitted-is n (map shown (take k (drop f t))) (omega arith) ∙ rw m)
 
 -- A row of the text, and one behind it.
 
-pub row-in-text : (e : Ed) (l k : ℕ) → l ≤ newlines (e .text) → k ≡ min (e .view .columns) (line-end (e .text) (nth-line (e .text) l) - (nth-line (e .text) l + e .view .left)) → text-row e l ≡ map shown (take k (drop (nth-line (e .text) l + e .view .left) (e .text))) ++ replicate (e .view .columns - k) blank
+pub row-in-text : (e : Ed) (l f k : ℕ) → l ≤ newlines (e .text) → f ≡ min (nth-line (e .text) l + e .view .left) (line-end (e .text) (nth-line (e .text) l)) → k ≡ min (e .view .columns) (line-end (e .text) (nth-line (e .text) l) - f) → text-row e l ≡ map shown (take k (drop f (e .text))) ++ replicate (e .view .columns - k) blank
 unfolding text-row line-count
-row-in-text e l k h q =
-    cond-true (ltb l (suc (newlines (e .text)))) _ _ (lt-ltb l (suc (newlines (e .text))) (omega arith)) ∙ columns-shown (e .text) (nth-line (e .text) l) (line-end (e .text) (nth-line (e .text) l)) (e .view .columns) (e .view .left) k (line-end-within (e .text) _ (nth-line-within (e .text) l)) q
+row-in-text e l f k h p q =
+    cond-true (ltb l (suc (newlines (e .text)))) _ _ (lt-ltb l (suc (newlines (e .text))) (omega arith)) ∙ columns-shown (e .text) (nth-line (e .text) l) (line-end (e .text) (nth-line (e .text) l)) (e .view .columns) (e .view .left) f k (line-end-within (e .text) _ (nth-line-within (e .text) l)) p q
 
 pub row-behind-text : (e : Ed) (l : ℕ) → newlines (e .text) < l → 1 ≤ e .view .columns → text-row e l ≡ ascii "~" ∷ replicate (e .view .columns - 1) blank
 unfolding text-row line-count
