@@ -1,4 +1,6 @@
 //! The words of a command line, the files that they name, and why a program refuses them.
+#![tactic(auto)]
+
 mod refusal;
 #[cfg(test)]
 mod tests;

@@ -1,4 +1,6 @@
 //! Immutable cells with counts in a row of words.
+#![tactic(auto)]
+
 mod cell;
 mod content;
 mod header;

@@ -1,4 +1,6 @@
 //! Lists of cells, to try how cells are taken, let go and taken again.
+#![tactic(auto)]
+
 ghost use Rattle.std.specs.Prelude.{◌≡◌, ℕ, ◌<◌, ◌≤◌, List, [], ◌∷◌, length};
 ghost use Rattle.cells.specs.Have.{Have, Item, item, opt};
 ghost use Rattle.chain.specs.Chains.{Built, Pair, Stored, paired, numbered as «numbered-list»};

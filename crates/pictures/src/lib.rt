@@ -1,4 +1,6 @@
 //! Pictures whose cells stand in one piece: for tests, and for programs that have no editor.
+#![tactic(auto)]
+
 mod pair;
 mod shot;
 

@@ -1,5 +1,7 @@
 //! A second editor: the text in one piece, and the screen drawn whole.
 //! It is written from the description of the keys alone, so that it can disagree with the first.
+#![tactic(auto)]
+
 mod buffer;
 mod commands;
 mod editor;

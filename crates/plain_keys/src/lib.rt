@@ -1,4 +1,6 @@
 //! What keys mean: counts, motions, what operators take, and the command that is being typed.
+#![tactic(auto)]
+
 mod count;
 mod extents;
 mod keys;

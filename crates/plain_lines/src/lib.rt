@@ -1,4 +1,6 @@
 //! A text as lines and words, and the window through which its lines are seen.
+#![tactic(auto)]
+
 mod text;
 mod window;
 mod words;

@@ -1,4 +1,6 @@
 //! A terminal: cells, a cursor, and what it makes of the bytes that are sent to it.
+#![tactic(auto)]
+
 mod sequences;
 mod terminal;
 #[cfg(test)]

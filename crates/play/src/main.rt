@@ -1,4 +1,6 @@
 //! Plays keys from a file on a text from a file, and writes what the text then is.
+#![tactic(auto)]
+
 use arguments::{Refusal, Words, read_file};
 use plain::{Editor, Size};
 use std::alloc::Global;

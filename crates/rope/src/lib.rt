@@ -1,4 +1,6 @@
 //! Ropes of bytes in a heap of cells: making, joining and cutting them.
+#![tactic(auto)]
+
 mod balancing;
 mod cutting;
 mod joining;

@@ -1,4 +1,6 @@
 //! How a rope lies in cells: the sums and the bytes in a cell's data words, and reading a single cell.
+#![tactic(auto)]
+
 mod leaves;
 mod packed;
 mod reading;

@@ -1,4 +1,6 @@
 //! Ropes made of ropes and of bytes: parts, replacements, building and repeating.
+#![tactic(auto)]
+
 mod building;
 mod repeating;
 mod replacing;

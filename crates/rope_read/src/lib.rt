@@ -1,4 +1,6 @@
 //! Readers of a rope that is lent: its length and sums, the byte at a place, sums before a place and places by their sums, ranges of bytes.
+#![tactic(auto)]
+
 mod descent;
 mod finding;
 mod locating;

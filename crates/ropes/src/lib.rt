@@ -1,4 +1,6 @@
 //! Ropes as values: byte sequences as balanced trees of leaves, and what holds of them.
+#![tactic(auto)]
+
 ghost use Rattle.ropes.specs.Laws.{ConcatLaws, CutLaws, EditLaws, Low, FewCells};
 
 /// Two ropes as one: their bytes, balance and height.

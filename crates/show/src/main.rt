@@ -1,4 +1,6 @@
 //! Plays keys from a file on a text from a file, and prints the screen at the beginning and after each.
+#![tactic(auto)]
+
 use arguments::{Refusal, Words, read_file, screen_size};
 use plain::{Editor, Position, Size};
 use std::alloc::Global;

@@ -1,4 +1,6 @@
 //! A row of 300,000,000 words of which a thousand cells are taken. Memory is used for what was written alone.
+#![tactic(auto)]
+
 use cells::new;
 use chain::build;
 use words::{HeapWords, Words};

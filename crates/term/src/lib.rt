@@ -1,4 +1,6 @@
 //! From two pictures of a screen to bytes that lead every terminal from the one to the other.
+#![tactic(auto)]
+
 mod change;
 mod cursor;
 mod drawing;

@@ -1,5 +1,7 @@
 //! Random pictures, drawn one over the other, on the second editor's terminal: each is compared cell by cell,
 //! and what was sent is held to the bound.
+#![tactic(auto)]
+
 mod dice;
 mod picture;
 mod screen;

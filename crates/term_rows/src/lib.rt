@@ -1,4 +1,6 @@
 //! What is sent for one row: a writer over lent bytes, cursor moves, clears, and which cells are written.
+#![tactic(auto)]
+
 mod output;
 mod position;
 mod row;

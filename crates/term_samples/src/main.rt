@@ -1,4 +1,5 @@
 //! Prints some changes of a full screen with what is sent for them, so that a real terminal can be fed with it.
+#![tactic(auto)]
 
 mod report;
 mod samples;

@@ -1,5 +1,7 @@
 //! What a terminal makes of what is sent to it: theorems on the definitions alone. The lemmas are in
 //! proofs/, and the code that sends is built on them.
+#![tactic(auto)]
+
 ghost use Rattle.terminals.specs.Drawing.{Moves, Runs, Clears, InSequence, NothingToSend, PicturesDrawable};
 
 /// A move leads to the same picture with the cursor elsewhere.

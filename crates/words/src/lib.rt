@@ -1,4 +1,6 @@
 //! A row of 32-bit words by a trait that counts every touch, and such a row on C's heap.
+#![tactic(auto)]
+
 ghost use Rattle.std.specs.Prelude.{◌≡◌, ℕ, ◌+◌, ◌<◌, min, List, length, slice_index, slice_set};
 
 mod heap_words;
