@@ -7,8 +7,8 @@ pub loop-items-preserved : goal.loop-items-preserved
 loop-items-preserved c =
     let v = c.loop-items.items in
     let short : length (vec_items v) < c.args.n = omega (arith, v.ok.0) in (
-      c.push-reserved.ensures.capacity ∙ c.loop-items.invariant.0,
-      simp c.push-reserved.ensures.items (padded_push (vec_items v) c.args.n short ∙ c.loop-items.invariant.1),
+      c.push_reserved.ensures.capacity ∙ c.loop-items.invariant.0,
+      simp c.push_reserved.ensures.items (padded_push (vec_items v) c.args.n short ∙ c.loop-items.invariant.1),
     )
 
 pub returns : goal.returns

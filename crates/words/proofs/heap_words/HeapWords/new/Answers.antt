@@ -7,6 +7,6 @@ pub returns : goal.returns
 returns c =
     let n = c.args.size in
     let all : n - 0 ≡ n = omega arith in
-    let row : padded (vec_items c.in-ok-items.items) n ≡ zeros n =
-    ap (λ xs. padded xs n) c.in-ok-items.ensures.items ∙ ap zeros all in
+    let row : padded (vec_items c.in_ok-items.items) n ≡ zeros n =
+    ap (λ xs. padded xs n) c.in_ok-items.ensures.items ∙ ap zeros all in
     (row, ap length row ∙ length_zeros n, refl)

@@ -16,7 +16,7 @@ returns-then-i-len c =
     let i = c.args.i in
     record {
       row =
-          ap (λ xs. padded xs s.size) c.fill-up.ensures.items
+          ap (λ xs. padded xs s.size) c.fill_up.ensures.items
           ∙ padded_more (vec_items s.items) (i + 1) s.size (omega (arith, s.items.ok.0)) (omega arith);
       size = search rules;
       there = search rules;
