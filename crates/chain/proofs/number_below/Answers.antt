@@ -27,8 +27,8 @@ module _ (m : List ℕ) (p n : ℕ) (h : Have m (item p (paired n) ∷ [])) wher
 pub left-below-requires : goal.left-below-requires
 left-below-requires g c = reading _ _ c.requires.number c.requires.have
 
-pub data-word-requires : goal.data-word-requires
-data-word-requires g c =
+pub data_word-requires : goal.data_word-requires
+data_word-requires g c =
     record {
       node = rw c.left-below.ensures.same (reading_below _ c.args.p.0 c.requires.number c.requires.have _ c.left-below.ensures.lent);
       word = omega arith;
@@ -43,6 +43,6 @@ returns g c =
       value = λ n h.
           (let there : Lent (g.W.Words.row c.left-below.new.words) q (t n) =
           subst (λ z. Lent z q (t n)) (sym c.left-below.ensures.same) (below m c.args.p.0 n h q c.left-below.ensures.lent) in
-          c.data-word.ensures.value.is none none (numbered n) there.stands);
-      same = c.data-word.ensures.same ∙ c.left-below.ensures.same;
+          c.data_word.ensures.value.is none none (numbered n) there.stands);
+      same = c.data_word.ensures.same ∙ c.left-below.ensures.same;
     }

@@ -14,14 +14,14 @@ loop-k-preserved g c =
     let k = c.loop-k.k in
     let w = drop 3 (cell m p) in
     let long : k < length w = omega (arith, length-drop 3 (cell m p), length_cell m p c.requires.within) in
-    let x : c.load-word.result ≡ get_or w k 0 = c.load-word.ensures.value ∙ ap (λ z. at z p (3 + k)) c.loop-k.invariant.0 ∙ at_data m p k in (
-      c.load-word.ensures.same ∙ c.loop-k.invariant.0,
-      length-set c.loop-k.data k c.load-word.result ∙ c.loop-k.invariant.1,
-      take_more_set c.loop-k.data k c.load-word.result (omega (arith, c.loop-k.invariant.1))
-          ∙ ap (λ z. z ++ c.load-word.result ∷ []) c.loop-k.invariant.2
+    let x : c.load_word.result ≡ get_or w k 0 = c.load_word.ensures.value ∙ ap (λ z. at z p (3 + k)) c.loop-k.invariant.0 ∙ at_data m p k in (
+      c.load_word.ensures.same ∙ c.loop-k.invariant.0,
+      length-set c.loop-k.data k c.load_word.result ∙ c.loop-k.invariant.1,
+      take_more_set c.loop-k.data k c.load_word.result (omega (arith, c.loop-k.invariant.1))
+          ∙ ap (λ z. z ++ c.load_word.result ∷ []) c.loop-k.invariant.2
           ∙ ap (λ z. take k w ++ z ∷ []) x
           ∙ sym (take_more w k 0 long),
-      omega (arith, c.load-word.ensures.touches, c.loop-k.invariant.3),
+      omega (arith, c.load_word.ensures.touches, c.loop-k.invariant.3),
     )
 
 pub returns : goal.returns

@@ -15,11 +15,11 @@ loop-k-preserved g c =
     let p = c.args.p.0 in
     let k = c.loop-k.k in
     let long : length w ≡ 13 = search rules in (
-      c.store-word.ensures.same
+      c.store_word.ensures.same
           ∙ ap (λ z. put z p (3 + k) (get_or w k 0)) c.loop-k.invariant.0
           ∙ data_more m w p k (omega arith) (omega (arith, c.requires.within)),
-      c.store-word.ensures.long ∙ c.loop-k.invariant.1,
-      omega (arith, c.store-word.ensures.touches, c.loop-k.invariant.2),
+      c.store_word.ensures.long ∙ c.loop-k.invariant.1,
+      omega (arith, c.store_word.ensures.touches, c.loop-k.invariant.2),
     )
 
 pub returns : goal.returns

@@ -6,8 +6,8 @@ use Rattle.cells.proofs.holding.release.Goals as goal
 pub lower-count-requires : goal.lower-count-requires
 lower-count-requires g c = let k = held_count _ c.args.p.0 c.requires (omega arith) in record { within = k.1; live = k.2 }
 
-pub push-dead-requires : goal.push-dead-requires
-push-dead-requires g c =
+pub push_dead-requires : goal.push_dead-requires
+push_dead-requires g c =
     let k = held_count _ c.args.p.0 c.requires (omega arith) in
     record { within = omega (arith, k.1, c.lower-count.ensures.long) }
 
@@ -16,7 +16,7 @@ returns-then-count-eq0 g c =
     let m = g.W.Words.row c.args.words.now in
     let p = c.args.p.0 in
     let lo = (held_count m p c.requires (omega arith)).0 in
-    let is : g.W.Words.row c.push-dead.new.words ≡ with_dead (put m p 0 0) p = cc in
+    let is : g.W.Words.row c.push_dead.new.words ≡ with_dead (put m p 0 0) p = cc in
     record {
       released = rw is (released_dead m p lo (omega (arith, c.lower-count.ensures.value)));
       kept = rw is (kept_dead m p lo);

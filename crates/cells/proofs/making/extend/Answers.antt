@@ -14,18 +14,18 @@ returns-then-taken-count g c =
     let r = c.args.right.0 in
     let w = c.args.data in
     let thirteen : length w ≡ 13 = search rules in
-    let is : row c.raise-taken.new.words ≡ put (filled m d l r w) 0 0 (d + 1) = cc in
+    let is : row c.raise_taken.new.words ≡ put (filled m d l r w) 0 0 (d + 1) = cc in
     let room : 16 * d + 16 ≤ length m = search rules in
     let s = c.requires.making.have.sound in
     let lo : 8 ≤ d = omega (arith, c.word-taken.ensures.value, s.counted.top) in
     record {
-      made = rw is (extended m d l r w thirteen c.word-taken.ensures.value lo c.if-taken-lt-MOST-CELLS.true room);
-      kept = rw is (kept_extend m d l r w thirteen c.word-taken.ensures.value lo c.if-taken-lt-MOST-CELLS.true room);
+      made = rw is (extended m d l r w thirteen c.word-taken.ensures.value lo c.if-taken-lt-MOST_CELLS.true room);
+      kept = rw is (kept_extend m d l r w thirteen c.word-taken.ensures.value lo c.if-taken-lt-MOST_CELLS.true room);
       touches = search rules;
     }
 
-pub returns-else-taken-lt-MOST-CELLS : goal.returns-else-taken-lt-MOST-CELLS
-returns-else-taken-lt-MOST-CELLS g c =
+pub returns-else-taken-lt-MOST_CELLS : goal.returns-else-taken-lt-MOST_CELLS
+returns-else-taken-lt-MOST_CELLS g c =
     record {
       made = record {
         same = search rules;

@@ -3,8 +3,8 @@ use Rattle.cells.specs.Have.{item, Have}
 use Rattle.cells.proofs.Sharings.{kept_on}
 use Rattle.cells.proofs.making.make.Goals as goal
 
-pub release-both-requires : goal.release-both-requires
-release-both-requires g c = rw c.in-None.ensures.made.same c.requires
+pub release_both-requires : goal.release_both-requires
+release_both-requires g c = rw c.in-None.ensures.made.same c.requires
 
 pub returns-in-None : goal.returns-in-None
 returns-in-None g c =
@@ -15,10 +15,10 @@ returns-in-None g c =
         full = c.in-None.ensures.made.full;
         dropped = record {
           have = λ u v rest h.
-              c.release-both.ensures.dropped.have u v rest
+              c.release_both.ensures.dropped.have u v rest
               (subst (λ z. Have z (item l u ∷ (item r v ∷ rest))) (sym c.in-None.ensures.made.same) h);
         };
       };
-      kept = kept_on _ _ _ c.in-None.ensures.kept c.release-both.ensures.kept;
-      touches = omega (arith, c.in-None.ensures.touches, c.release-both.ensures.touches);
+      kept = kept_on _ _ _ c.in-None.ensures.kept c.release_both.ensures.kept;
+      touches = omega (arith, c.in-None.ensures.touches, c.release_both.ensures.touches);
     }

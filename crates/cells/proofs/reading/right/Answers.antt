@@ -4,15 +4,15 @@ use Rattle.cells.proofs.Held.{lend_right}
 use Rattle.cells.proofs.Openings.{read_within}
 use Rattle.cells.proofs.reading.right.Goals as goal
 
-pub right-of-requires : goal.right-of-requires
-right-of-requires g c = record { within = read_within _ _ c.requires }
+pub right_of-requires : goal.right_of-requires
+right_of-requires g c = record { within = read_within _ _ c.requires }
 
 pub returns : goal.returns
 returns g c =
     let m = g.W.Words.row c.args.words.now in
     let p = c.args.p.0 in
     record {
-      lent = record { lent = λ u v w rest h lent. subst (λ z. Lent m z v) (sym c.right-of.ensures.value) (lend_right m p u v w rest h lent) };
-      same = c.right-of.ensures.same;
-      touches = c.right-of.ensures.touches;
+      lent = record { lent = λ u v w rest h lent. subst (λ z. Lent m z v) (sym c.right_of.ensures.value) (lend_right m p u v w rest h lent) };
+      same = c.right_of.ensures.same;
+      touches = c.right_of.ensures.touches;
     }

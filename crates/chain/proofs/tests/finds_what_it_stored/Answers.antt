@@ -22,6 +22,6 @@ root-found-requires c =
     let a : Pair _ c.in-Some.two.0 = record { number = 5; have = c.in-Some.ensures } in
     record { root = omega arith; long = omega (arith, pair_long _ _ a, c.store.ensures.long) }
 
-pub number-below-requires : goal.number-below-requires
-number-below-requires c =
+pub number_below-requires : goal.number_below-requires
+number_below-requires c =
     found _ _ _ c.in-Some.two.0 _ _ (record { number = 5; have = c.in-Some.ensures }) c.store.ensures c.root-found.ensures.value c.root-found.ensures.same

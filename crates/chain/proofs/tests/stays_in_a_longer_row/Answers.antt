@@ -11,17 +11,17 @@ use Rattle.chain.proofs.tests.stays_in_a_longer_row.Goals as goal
 longer : (m m' : List ℕ) (n : ℕ) (items : List Item) → m' ≡ padded m n → Have m items → Have m' items
 longer m m' n items e h = subst (λ z. Have z items) (sym e) (longer_row m items (n - length m) h).0
 
-pub number-below-requires : goal.number-below-requires
-number-below-requires c =
-    record { number = 1; have = longer _ _ 176 (item c.in-Some.two.0 (paired 1) ∷ []) c.in-ok-grow.ensures.cases c.in-Some.ensures }
+pub number_below-requires : goal.number_below-requires
+number_below-requires c =
+    record { number = 1; have = longer _ _ 176 (item c.in-Some.two.0 (paired 1) ∷ []) c.in_ok-grow.ensures.cases c.in-Some.ensures }
 
 pub make-requires : goal.make-requires
 make-requires c =
     let x = item c.in-Some.two.0 (paired 1) in
-    let h = longer _ _ 176 (x ∷ []) c.in-ok-grow.ensures.cases c.in-Some.ensures in
+    let h = longer _ _ 176 (x ∷ []) c.in_ok-grow.ensures.cases c.in-Some.ensures in
     record {
       left = paired 1;
       right = none;
       rest = [];
-      have = none_second _ x [] (subst (λ m. Have m (x ∷ [])) (sym c.number-below.ensures.same) h);
+      have = none_second _ x [] (subst (λ m. Have m (x ∷ [])) (sym c.number_below.ensures.same) h);
     }

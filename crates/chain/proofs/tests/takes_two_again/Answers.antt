@@ -9,4 +9,4 @@ pair-requires-2 c = record { have = c.release.ensures.released.have (paired 1) [
 pub refuses-requires : goal.refuses-requires
 refuses-requires c =
     let items = item c.in-Some-pair.second.0 (paired 3) ∷ [] in
-    (items, subst (λ m. Have m items) (sym c.number-below.ensures.same) c.in-Some-pair.ensures)
+    (items, subst (λ m. Have m items) (sym c.number_below.ensures.same) c.in-Some-pair.ensures)

@@ -5,8 +5,8 @@ use Rattle.rope.proofs.balancing.rotate.Goals as goal
 pub halve-n-requires : goal.halve-n-requires
 halve-n-requires g c = lean_opening c.args.side _ _ _ (leans c.args.side _ _ _ c.requires)
 
-pub rotate-parts-requires : goal.rotate-parts-requires
-rotate-parts-requires g c =
+pub rotate_parts-requires : goal.rotate_parts-requires
+rotate_parts-requires g c =
     lean_three c.args.side _ _ _ _ _ _ c.halve-n.ensures.halved c.halve-n.ensures.kept.long (leans c.args.side _ _ _ c.requires)
 
 pub returns : goal.returns

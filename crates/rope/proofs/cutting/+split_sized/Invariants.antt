@@ -1,4 +1,4 @@
 use Rattle.rope.proofs.cutting.+split_sized.Given as goal
 
-abbrev pub decreases-split-sized : goal.decreases-split-sized
-decreases-split-sized g l = l.size
+abbrev pub decreases-split_sized : goal.decreases-split_sized
+decreases-split_sized g l = l.size

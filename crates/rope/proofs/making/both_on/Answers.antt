@@ -3,8 +3,8 @@ use Rattle.rope.specs.Building.{Couple}
 use Rattle.rope.proofs.Makings.{couple_two, couples_both, couples_left, couples_right}
 use Rattle.rope.proofs.making.both_on.Goals as goal
 
-pub node-on-requires : goal.node-on-requires
-node-on-requires g c =
+pub node_on-requires : goal.node_on-requires
+node_on-requires g c =
     let m = g.W.Words.row c.args.words.now in
     let x : Couple m (Some c.in-Some-Some.a) (Some c.in-Some-Some.b) = rw (c.in-Some-Some.is-0, c.in-Some-Some.is-1) at c.requires in
     couple_two m _ _ x

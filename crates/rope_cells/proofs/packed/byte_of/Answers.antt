@@ -11,5 +11,5 @@ returns-in-1 c = byte_at_1 c.args.word c.args.j (omega arith)
 pub returns-in-2 : goal.returns-in-2
 returns-in-2 c = byte_at_2 c.args.word c.args.j (omega arith)
 
-pub returns-in-default : goal.returns-in-default
-returns-in-default c = byte_at_3 c.args.word c.args.j (omega arith)
+pub returns-in_default : goal.returns-in_default
+returns-in_default c = byte_at_3 c.args.word c.args.j (omega arith)

@@ -13,7 +13,7 @@ loop-k-preserved c =
     let inv = c.loop-k.invariant in
     let lt : k < length s = omega (arith, inv.0) in (
       length-set s k _ ∙ inv.0,
-      below_more _ _ (λ j h. let ne : j ≢ k = omega arith in rw get_or-set_other (inv.1 j h)) (rw get_or-set_same c.digit-of.ensures),
+      below_more _ _ (λ j h. let ne : j ≢ k = omega arith in rw get_or-set_other (inv.1 j h)) (rw get_or-set_same c.digit_of.ensures),
       λ j h. let ne : j ≢ k = omega arith in rw get_or-set_other (inv.2 j (omega arith)),
     )
 

@@ -26,8 +26,8 @@ small s xs k few are =
     let e : pack s ≡ pack (sums_of xs) = ap pack are in
     omega (arith, e, pack_drop s k, pack_small xs (omega arith))
 
-pub overflow-mul-tag : goal.overflow-mul-tag
-overflow-mul-tag c = omega (arith, small c.args.sums c.requires.xs c.loop-k.k c.requires.few c.requires.are, c.loop-k.invariant)
+pub overflow_mul-tag : goal.overflow_mul-tag
+overflow_mul-tag c = omega (arith, small c.args.sums c.requires.xs c.loop-k.k c.requires.few c.requires.are, c.loop-k.invariant)
 
-pub overflow-add-tag : goal.overflow-add-tag
-overflow-add-tag c = omega (arith, turned c, small c.args.sums c.requires.xs (c.loop-k.k - 1) c.requires.few c.requires.are)
+pub overflow_add-tag : goal.overflow_add-tag
+overflow_add-tag c = omega (arith, turned c, small c.args.sums c.requires.xs (c.loop-k.k - 1) c.requires.few c.requires.are)

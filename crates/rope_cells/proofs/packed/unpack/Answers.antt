@@ -10,7 +10,7 @@ loop-i-preserved c =
     let inv = c.loop-i.invariant in
     let lt : i < length w = omega (arith, inv.0) in (
       length-set w i _ ∙ inv.0,
-      below_more _ _ (λ j h. let ne : j ≢ i = omega arith in rw get_or-set_other (inv.1 j h)) (rw get_or-set_same c.byte-of.ensures),
+      below_more _ _ (λ j h. let ne : j ≢ i = omega arith in rw get_or-set_other (inv.1 j h)) (rw get_or-set_same c.byte_of.ensures),
     )
 
 pub returns : goal.returns

@@ -9,8 +9,8 @@ use Rattle.rope_cells.proofs.reading.node_sums.Goals as goal
 pub loop-k-init : goal.loop-k-init
 loop-k-init g c = (refl, omega arith, refl, (λ x j h. absurd (omega arith)), λ j h. zeros j)
 
-pub data-word-requires : goal.data-word-requires
-data-word-requires g c = record { node = rw c.loop-k.invariant.0 (reading _ _ (node_some _ _ c.requires)); word = omega arith }
+pub data_word-requires : goal.data_word-requires
+data_word-requires g c = record { node = rw c.loop-k.invariant.0 (reading _ _ (node_some _ _ c.requires)); word = omega arith }
 
 pub loop-k-preserved : goal.loop-k-preserved
 loop-k-preserved g c =
@@ -19,9 +19,9 @@ loop-k-preserved g c =
     let s = c.loop-k.sums in
     let inv = c.loop-k.invariant in
     let lt : k < length s = omega (arith, inv.2) in
-    let read : WordRead (row c.args.words.now) c.args.p.0 (1 + k) c.data-word.result = rw inv.0 at c.data-word.ensures.value in (
-      c.data-word.ensures.same ∙ inv.0,
-      omega (arith, inv.1, c.data-word.ensures.touches),
+    let read : WordRead (row c.args.words.now) c.args.p.0 (1 + k) c.data_word.result = rw inv.0 at c.data_word.ensures.value in (
+      c.data_word.ensures.same ∙ inv.0,
+      omega (arith, inv.1, c.data_word.ensures.touches),
       length-set s k _ ∙ inv.2,
       (λ x. below_more _ _ (λ j h. let ne : j ≢ k = omega arith in rw get_or-set_other (inv.3 x j h)) (rw get_or-set_same (sum_read _ _ k _ (omega arith) read x))),
       λ j h. let ne : j ≢ k = omega arith in rw get_or-set_other (inv.4 j (omega arith)),

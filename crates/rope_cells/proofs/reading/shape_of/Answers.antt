@@ -5,7 +5,7 @@ use Rattle.rope_cells.proofs.reading.shape_of.Goals as goal
 pub returns-then-tag-eq-NODE : goal.returns-then-tag-eq-NODE
 returns-then-tag-eq-NODE g c =
     record {
-      value = λ x. shape_node x.lends.rope _ x.lends.whole x.some (c.tag-of-tag.ensures.value x) c.if-tag-eq-NODE.true;
+      value = λ x. shape_node x.lends.rope _ x.lends.whole x.some (c.tag_of-tag.ensures.value x) c.if-tag-eq-NODE.true;
       same = search rules;
       touches = search rules;
     }
@@ -13,7 +13,7 @@ returns-then-tag-eq-NODE g c =
 pub returns-else-tag-eq-NODE : goal.returns-else-tag-eq-NODE
 returns-else-tag-eq-NODE g c =
     record {
-      value = λ x. shape_leaf x.lends.rope _ x.lends.whole x.some (c.tag-of-tag.ensures.value x) c.if-tag-eq-NODE.false;
+      value = λ x. shape_leaf x.lends.rope _ x.lends.whole x.some (c.tag_of-tag.ensures.value x) c.if-tag-eq-NODE.false;
       same = search rules;
       touches = search rules;
     }

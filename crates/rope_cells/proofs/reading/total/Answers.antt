@@ -5,29 +5,29 @@ use Rattle.rope_cells.specs.Lending.{Lends, LendsNode}
 use Rattle.rope_cells.proofs.Codes.{reading, node_some, lends_some, tag_high, sum_empty, sum_read, sum_leaf}
 use Rattle.rope_cells.proofs.reading.total.Goals as goal
 
-pub returns-then-is-none : goal.returns-then-is-none
-returns-then-is-none g c =
-    record { value = sum_empty _ _ c.args.k (eqb-true _ _ (sym c.if-is-none.ensures)); same = refl; touches = omega arith }
+pub returns-then-is_none : goal.returns-then-is_none
+returns-then-is_none g c =
+    record { value = sum_empty _ _ c.args.k (eqb-true _ _ (sym c.if-is_none.ensures)); same = refl; touches = omega arith }
 
-pub tag-of-tag-requires : goal.tag-of-tag-requires
-tag-of-tag-requires g c = lends_some _ _ (eqb-false _ _ (sym c.if-is-none.ensures)) c.requires.rope
+pub tag_of-tag-requires : goal.tag_of-tag-requires
+tag_of-tag-requires g c = lends_some _ _ (eqb-false _ _ (sym c.if-is_none.ensures)) c.requires.rope
 
-pub data-word-requires : goal.data-word-requires
-data-word-requires g c =
+pub data_word-requires : goal.data_word-requires
+data_word-requires g c =
     let m = g.W.Words.row c.args.words.now in
-    let some : c.args.p.0 ≢ 0 = eqb-false _ _ (sym c.if-is-none.ensures) in
-    record { node = rw c.tag-of-tag.ensures.same (reading _ _ (lends_some m _ some c.requires.rope)); word = omega (arith, c.requires.place) }
+    let some : c.args.p.0 ≢ 0 = eqb-false _ _ (sym c.if-is_none.ensures) in
+    record { node = rw c.tag_of-tag.ensures.same (reading _ _ (lends_some m _ some c.requires.rope)); word = omega (arith, c.requires.place) }
 
 pub returns-then-tag-eq-NODE : goal.returns-then-tag-eq-NODE
 returns-then-tag-eq-NODE g c =
     let m = g.W.Words.row c.args.words.now in
-    let some : c.args.p.0 ≢ 0 = eqb-false _ _ (sym c.if-is-none.ensures) in
-    let read : WordRead m c.args.p.0 (1 + c.args.k) c.data-word.result = rw c.tag-of-tag.ensures.same at c.data-word.ensures.value in
+    let some : c.args.p.0 ≢ 0 = eqb-false _ _ (sym c.if-is_none.ensures) in
+    let read : WordRead m c.args.p.0 (1 + c.args.k) c.data_word.result = rw c.tag_of-tag.ensures.same at c.data_word.ensures.value in
     record {
       value = λ x.
           let y = lends_some m _ some x in
           sum_read m _ c.args.k _ c.requires.place read
-          (record { lends = x; high = tag_high x.rope _ x.whole y.some (c.tag-of-tag.ensures.value (lends_some m _ some x)) c.if-tag-eq-NODE.true });
+          (record { lends = x; high = tag_high x.rope _ x.whole y.some (c.tag_of-tag.ensures.value (lends_some m _ some x)) c.if-tag-eq-NODE.true });
       same = search rules;
       touches = search rules;
     }
@@ -35,9 +35,9 @@ returns-then-tag-eq-NODE g c =
 pub returns-else-tag-eq-NODE : goal.returns-else-tag-eq-NODE
 returns-else-tag-eq-NODE g c =
     let m = g.W.Words.row c.args.words.now in
-    let some : c.args.p.0 ≢ 0 = eqb-false _ _ (sym c.if-is-none.ensures) in
+    let some : c.args.p.0 ≢ 0 = eqb-false _ _ (sym c.if-is_none.ensures) in
     record {
-      value = λ x. sum_leaf x.rope c.args.k _ _ x.whole (lends_some m _ some x).some (c.tag-of-tag.ensures.value (lends_some m _ some x)) c.if-tag-eq-NODE.false c.digit-of.ensures;
+      value = λ x. sum_leaf x.rope c.args.k _ _ x.whole (lends_some m _ some x).some (c.tag_of-tag.ensures.value (lends_some m _ some x)) c.if-tag-eq-NODE.false c.digit_of.ensures;
       same = search rules;
       touches = search rules;
     }

@@ -19,54 +19,54 @@ returns-then-n-eq1 g t c =
     let o = c.concat.ensures in
     record { repeats = repeats_once _ c.if-n-eq1.true _ _ _ _ _ _ _ o.joins; kept = o.kept }
 
-pub add-odd-requires : goal.add-odd-requires
-add-odd-requires g t c =
+pub add_odd-requires : goal.add_odd-requires
+add_odd-requires g t c =
     let many : 2 ≤ c.args.n = omega arith in
     many_two _ many _ _ _ c.requires
 
-pub release-requires-in-default : goal.release-requires-in-default
-release-requires-in-default g t c =
+pub release-requires-in_default : goal.release-requires-in_default
+release-requires-in_default g t c =
     let many : 2 ≤ c.args.n = omega arith in
-    let a = c.in-default.ensures in
-    add_holding _ many _ _ _ _ a.kept.long _ c.digits-of-digits.ensures.odd _ _ a.adds c.requires
+    let a = c.in_default.ensures in
+    add_holding _ many _ _ _ _ a.kept.long _ c.digits_of-digits.ensures.odd _ _ a.adds c.requires
 
-pub returns-in-default : goal.returns-in-default
-returns-in-default g t c =
+pub returns-in_default : goal.returns-in_default
+returns-in_default g t c =
     let many : 2 ≤ c.args.n = omega arith in
-    let a = c.in-default.ensures in
-    let gone = c.release-in-default.ensures in
-    record { repeats = repeats_no_add _ many _ _ _ _ a.kept.long _ c.digits-of-digits.ensures.odd _ _ a.adds _ _ gone.released gone.touches; kept = kept_on _ _ _ a.kept gone.kept }
+    let a = c.in_default.ensures in
+    let gone = c.release-in_default.ensures in
+    record { repeats = repeats_no_add _ many _ _ _ _ a.kept.long _ c.digits_of-digits.ensures.odd _ _ a.adds _ _ gone.released gone.touches; kept = kept_on _ _ _ a.kept gone.kept }
 
 pub double-requires : goal.double-requires
 double-requires g t c =
     let many : 2 ≤ c.args.n = omega arith in
     let a = c.in-Some.ensures in
-    add_one _ many _ _ _ _ a.kept.long _ c.digits-of-digits.ensures.odd _ _ _ a.adds c.requires
+    add_one _ many _ _ _ _ a.kept.long _ c.digits_of-digits.ensures.odd _ _ _ a.adds c.requires
 
-pub release-requires-in-default-double : goal.release-requires-in-default-double
-release-requires-in-default-double g t c =
+pub release-requires-in_default-double : goal.release-requires-in_default-double
+release-requires-in_default-double g t c =
     let many : 2 ≤ c.args.n = omega arith in
     let a = c.in-Some.ensures in
-    let b = c.in-default-double.ensures in
-    start_holding _ many _ _ _ _ a.kept.long _ c.digits-of-digits.ensures.odd _ _ _ a.adds _ b.kept.long _ b.doubles c.requires
+    let b = c.in_default-double.ensures in
+    start_holding _ many _ _ _ _ a.kept.long _ c.digits_of-digits.ensures.odd _ _ _ a.adds _ b.kept.long _ b.doubles c.requires
 
-pub returns-in-default-double : goal.returns-in-default-double
-returns-in-default-double g t c =
+pub returns-in_default-double : goal.returns-in_default-double
+returns-in_default-double g t c =
     let many : 2 ≤ c.args.n = omega arith in
     let a = c.in-Some.ensures in
-    let b = c.in-default-double.ensures in
-    let gone = c.release-in-default-double.ensures in
+    let b = c.in_default-double.ensures in
+    let gone = c.release-in_default-double.ensures in
     record {
-      repeats = repeats_no_double _ many _ _ _ _ a.kept.long _ c.digits-of-digits.ensures.odd _ _ _ a.adds _ b.kept.long _ b.doubles _ _ gone.released gone.touches;
+      repeats = repeats_no_double _ many _ _ _ _ a.kept.long _ c.digits_of-digits.ensures.odd _ _ _ a.adds _ b.kept.long _ b.doubles _ _ gone.released gone.touches;
       kept = kept_on _ _ _ a.kept (kept_on _ _ _ b.kept gone.kept);
     }
 
-pub repeat-onto-requires : goal.repeat-onto-requires
-repeat-onto-requires g t c κs within =
+pub repeat_onto-requires : goal.repeat_onto-requires
+repeat_onto-requires g t c κs within =
     let many : 2 ≤ c.args.n = omega arith in
     let a = c.in-Some.ensures in
     let b = c.in-Some-double.ensures in
-    (omega (arith, c.decreases), (within, half_two _ many _ _ _ _ a.kept.long _ c.digits-of-digits.ensures.odd _ _ _ a.adds _ b.kept.long _ _ b.doubles _ c.digits-of-digits.ensures.half c.requires))
+    (omega (arith, c.decreases), (within, half_two _ many _ _ _ _ a.kept.long _ c.digits_of-digits.ensures.odd _ _ _ a.adds _ b.kept.long _ _ b.doubles _ c.digits_of-digits.ensures.half c.requires))
 
 pub returns : goal.returns
 returns g t c =
@@ -75,6 +75,6 @@ returns g t c =
     let b = c.in-Some-double.ensures in
     let o = c.repeat_onto.ensures in
     record {
-      repeats = repeats_half _ many _ _ _ _ a.kept.long _ c.digits-of-digits.ensures.odd _ _ _ a.adds _ b.kept.long _ _ b.doubles _ c.digits-of-digits.ensures.half _ _ _ o.repeats;
+      repeats = repeats_half _ many _ _ _ _ a.kept.long _ c.digits_of-digits.ensures.odd _ _ _ a.adds _ b.kept.long _ _ b.doubles _ c.digits_of-digits.ensures.half _ _ _ o.repeats;
       kept = kept_on _ _ _ a.kept (kept_on _ _ _ b.kept o.kept);
     }

@@ -1,8 +1,8 @@
 use Rattle.rope_edit.proofs.Repeats.{times_two, repeated, repeated_quick}
 use Rattle.rope_edit.proofs.repeating.repeat.Goals as goal
 
-pub repeat-onto-requires : goal.repeat-onto-requires
-repeat-onto-requires g c = times_two _ _ _ c.requires
+pub repeat_onto-requires : goal.repeat_onto-requires
+repeat_onto-requires g c = times_two _ _ _ c.requires
 
 pub returns : goal.returns
 returns g c =

@@ -8,12 +8,12 @@ split-requires g c = replaces_one c.args.a c.args.b _ _ _ c.requires
 
 pub release-requires : goal.release-requires
 release-requires g c =
-    let s = c.in-default.ensures in
+    let s = c.in_default.ensures in
     replaces_holding c.args.a c.args.b _ _ _ _ s.kept.long _ _ s.cuts c.requires
 
-pub returns-in-default : goal.returns-in-default
-returns-in-default g c =
-    let s = c.in-default.ensures in
+pub returns-in_default : goal.returns-in_default
+returns-in_default g c =
+    let s = c.in_default.ensures in
     let gone = c.release.ensures in
     let all = replaces_none c.args.a c.args.b _ _ _ _ s.kept.long _ _ s.cuts _ _ gone.released gone.touches in
     record { replaces = all; kept = kept_on _ _ _ s.kept gone.kept; quick = replaces_quick _ _ _ _ _ _ _ _ _ c.requires all }
@@ -23,24 +23,24 @@ keep-front-requires g c =
     let s = c.in-Some.ensures in
     front_cut c.args.a c.args.b _ _ _ _ s.kept.long _ _ _ s.cuts c.requires
 
-pub concat-onto-start-requires : goal.concat-onto-start-requires
-concat-onto-start-requires g c =
+pub concat_onto-start-requires : goal.concat_onto-start-requires
+concat_onto-start-requires g c =
     let s = c.in-Some.ensures in
     let k = c.keep-front.ensures in
     pending_following _ _ _ (start_pending c.args.a c.args.b _ _ _ _ s.kept.long _ _ _ s.cuts _ _ _ k.keeps k.kept.long c.requires)
 
-pub concat-onto-requires : goal.concat-onto-requires
-concat-onto-requires g c =
+pub concat_onto-requires : goal.concat_onto-requires
+concat_onto-requires g c =
     let s = c.in-Some.ensures in
     let k = c.keep-front.ensures in
-    let f = c.concat-onto-start.ensures in
+    let f = c.concat_onto-start.ensures in
     pending_following _ _ _ (end_pending c.args.a c.args.b _ _ _ _ s.kept.long _ _ _ s.cuts _ _ _ k.keeps k.kept.long _ _ _ f.follows f.kept.long c.requires)
 
 pub returns : goal.returns
 returns g c =
     let s = c.in-Some.ensures in
     let k = c.keep-front.ensures in
-    let f = c.concat-onto-start.ensures in
-    let o = c.concat-onto.ensures in
+    let f = c.concat_onto-start.ensures in
+    let o = c.concat_onto.ensures in
     let all = replaces_some c.args.a c.args.b _ _ _ _ s.kept.long _ _ _ s.cuts _ _ _ k.keeps k.kept.long _ _ _ f.follows f.kept.long _ _ _ o.follows o.kept.long in
     record { replaces = all; kept = kept_on _ _ _ s.kept (kept_on _ _ _ k.kept (kept_on _ _ _ f.kept o.kept)); quick = replaces_quick _ _ _ _ _ _ _ _ _ c.requires all }

@@ -5,8 +5,8 @@ use Rattle.rope_read.proofs.Spots.{text_few}
 use Rattle.rope_read.proofs.Finds.{absent_read, first_read}
 use Rattle.rope_read.proofs.finding.first_in_part.Goals as goal
 
-pub overflow-add-result : goal.overflow-add-result
-overflow-add-result g c =
+pub overflow_add-result : goal.overflow_add-result
+overflow_add-result g c =
     let few = text_few _ _ c.requires.rope in
     let x = c.in-Some.ensures.inside in
     let fits : c.args.from + c.in-Some.k < 536870912 = omega (arith, c.requires.inside, c.read.auto.into) in

@@ -9,8 +9,8 @@ loop-k-init c = (omega arith, absent_none _ _ _ _ (omega arith))
 pub bounds-chunk-k : goal.bounds-chunk-k
 bounds-chunk-k c = omega (arith, c.loop-k.invariant.0, c.loop-k-test.true)
 
-pub overflow-cast-result : goal.overflow-cast-result
-overflow-cast-result c =
+pub overflow_cast-result : goal.overflow_cast-result
+overflow_cast-result c =
     let le = c.loop-k.invariant.0 in
     let few = c.requires.few in
     search rules

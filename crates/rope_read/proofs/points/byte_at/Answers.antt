@@ -5,8 +5,8 @@ use Rattle.rope_read.specs.Text.{text}
 use Rattle.rope_read.proofs.Spots.{inside_some, text_few, place_inside, byte_of_text, at_within}
 use Rattle.rope_read.proofs.points.byte_at.Goals as goal
 
-pub overflow-add-at : goal.overflow-add-at
-overflow-add-at g c =
+pub overflow_add-at : goal.overflow_add-at
+overflow_add-at g c =
     let b = c.requires.inside in
     let f = text_few _ _ c.requires.rope in
     search rules
@@ -22,11 +22,11 @@ locate-spot-requires g c =
       reaches = record { known_by = omega (arith, zero_by); known_of = omega (arith, zero_by); reach = omega (arith, long, c.requires.inside) };
     }
 
-pub overflow-sub-at : goal.overflow-sub-at
-overflow-sub-at g c = at_within _ (c.args.at + 1) _ _ c.locate-spot.ensures.value c.index-by.ensures c.args.at refl
+pub overflow_sub-at : goal.overflow_sub-at
+overflow_sub-at g c = at_within _ (c.args.at + 1) _ _ c.locate-spot.ensures.value c.index-by.ensures c.args.at refl
 
-pub byte-in-requires : goal.byte-in-requires
-byte-in-requires g c =
+pub byte_in-requires : goal.byte_in-requires
+byte_in-requires g c =
     let y = c.locate-spot.ensures.value in
     let a = at_within _ (c.args.at + 1) _ _ y c.index-by.ensures c.args.at refl in
     omega (arith, place_inside _ (c.args.at + 1) _ _ y c.index-by.ensures, y.leaf.few, y.leaf.room)
@@ -35,7 +35,7 @@ pub returns : goal.returns
 returns g c =
     let y = c.locate-spot.ensures in
     record {
-      value = c.byte-in.ensures ∙ byte_of_text _ (c.args.at + 1) _ _ y.value c.index-by.ensures c.args.at refl;
+      value = c.byte_in.ensures ∙ byte_of_text _ (c.args.at + 1) _ _ y.value c.index-by.ensures c.args.at refl;
       same = y.same;
       touches = omega (arith, y.touches);
     }

@@ -7,9 +7,9 @@ use Rattle.rope_read.specs.Text.{text}
 use Rattle.rope_read.proofs.Spots.{text_none, text_few, by_within, place_fits, front_sum_none, prefix_is, front_min}
 use Rattle.rope_read.proofs.points.prefix.Goals as goal
 
-pub returns-then-is-none : goal.returns-then-is-none
-returns-then-is-none g c =
-    let e = text_none _ _ (eqb-true _ _ (sym c.if-is-none.ensures)) c.requires.rope in
+pub returns-then-is_none : goal.returns-then-is_none
+returns-then-is_none g c =
+    let e = text_none _ _ (eqb-true _ _ (sym c.if-is_none.ensures)) c.requires.rope in
     record { value = front_sum_none g.S.Sum.sums g.met.S.Sum.whole _ c.args.at e; same = refl; touches = omega arith }
 
 pub locate-spot-requires : goal.locate-spot-requires
@@ -20,33 +20,33 @@ locate-spot-requires g c =
     let long : sum_at t c.index-by.result ≡ length t = ap (sum_at t) zero_by ∙ sum_first t in
     let is : c.len.result ≡ length t = rw size.same size.value in
     record {
-      rope = rw size.same (lends_some _ _ (eqb-false _ _ (sym c.if-is-none.ensures)) c.requires.rope);
+      rope = rw size.same (lends_some _ _ (eqb-false _ _ (sym c.if-is_none.ensures)) c.requires.rope);
       reaches = record { known_by = omega (arith, zero_by); known_of = omega (arith, c.index-of.ensures, g.met.S.Sum.known); reach = omega (arith, long, is, c.min-end.ensures) };
     }
 
-pub overflow-sub-end : goal.overflow-sub-end
-overflow-sub-end g c = by_within _ _ _ _ c.locate-spot.ensures.value
+pub overflow_sub-end : goal.overflow_sub-end
+overflow_sub-end g c = by_within _ _ _ _ c.locate-spot.ensures.value
 
-pub front-sum-requires : goal.front-sum-requires
-front-sum-requires g c =
+pub front_sum-requires : goal.front_sum-requires
+front_sum-requires g c =
     let y = c.locate-spot.ensures.value in
     record { inside = omega (arith, place_fits _ _ _ _ y c.index-by.ensures, y.leaf.room); few = omega (arith, y.leaf.room) }
 
 -- the sum before the leaf and that in it
-pub overflow-add-result : goal.overflow-add-result
-overflow-add-result g c =
+pub overflow_add-result : goal.overflow_add-result
+overflow_add-result g c =
     let sums = g.S.Sum.sums in
     let y = c.locate-spot.ensures.value in
     let n = c.min-end.result in
     let r = c.locate-spot.result in
     let t = text (g.W.Words.row c.len.new.words) c.args.p.0 in
     let of : r.of ≡ sums y.before = y.of_is ∙ (ap (sum_at y.before) c.index-of.ensures ∙ g.met.S.Sum.stands y.before) in
-    let here : c.front-sum.result ≡ sums (take (n - r.by) r.leaf.bytes) = c.front-sum.ensures in
+    let here : c.front_sum.result ≡ sums (take (n - r.by) r.leaf.bytes) = c.front_sum.ensures in
     let e = prefix_is t n _ r y sums g.met.S.Sum.whole c.index-by.ensures of in
     let small = g.met.S.Sum.small (take n t) in
     let front = length-take n t in
     let few : length t < 536870912 = rw c.len.ensures.same (text_few _ _ c.requires.rope) in
-    let fits : r.of + c.front-sum.result < 536870912 = omega arith in
+    let fits : r.of + c.front_sum.result < 536870912 = omega arith in
     search rules
 
 pub returns : goal.returns
@@ -58,7 +58,7 @@ returns g c =
     let r = c.locate-spot.result in
     let t = text (g.W.Words.row c.len.new.words) c.args.p.0 in
     let of : r.of ≡ sums y.value.before = y.value.of_is ∙ (ap (sum_at y.value.before) c.index-of.ensures ∙ g.met.S.Sum.stands y.value.before) in
-    let here : c.front-sum.result ≡ sums (take (n - r.by) r.leaf.bytes) = c.front-sum.ensures in
+    let here : c.front_sum.result ≡ sums (take (n - r.by) r.leaf.bytes) = c.front_sum.ensures in
     let e : r.of + sums (take (n - r.by) r.leaf.bytes) ≡ sums (take n t) = prefix_is t n _ r y.value sums g.met.S.Sum.whole c.index-by.ensures of in
     let is : c.len.result ≡ length t = rw size.same size.value in
     let end : n ≡ min c.args.at (length t) = omega (arith, c.min-end.ensures) in

@@ -10,8 +10,8 @@ loop-sum-init g c = (omega arith, sym (sums_none g.S.Sum.sums g.met.S.Sum.whole)
 inside : (g : given.Over) (xs : List ℕ) (k n sum : ℕ) → n ≤ g.S.Sum.sums xs → k ≤ length xs → sum ≡ g.S.Sum.sums (take k xs) → sum < n → k < length xs
 inside g xs k n sum reach le is less = not_yet g.S.Sum.sums g.met.S.Sum.whole g.met.S.Sum.small xs k n reach le (omega arith)
 
-pub sum-at-sum-requires : goal.sum-at-sum-requires
-sum-at-sum-requires g c =
+pub sum_at-sum-requires : goal.sum_at-sum-requires
+sum_at-sum-requires g c =
     let inv = c.loop-sum.invariant in
     record { inside = inside g _ _ _ _ c.requires.reached inv.0 inv.1 c.loop-sum-test.true }
 
@@ -28,7 +28,7 @@ loop-sum-preserved g c =
     let xs = c.args.part.now in
     let sums = g.S.Sum.sums in
     let lt = inside g _ _ _ _ c.requires.reached inv.0 inv.1 c.loop-sum-test.true in
-    let here : c.sum-at-sum.result ≡ sums (take 1 (drop k xs)) = c.sum-at-sum.ensures in
+    let here : c.sum_at-sum.result ≡ sums (take 1 (drop k xs)) = c.sum_at-sum.ensures in
     let more = one_more sums g.met.S.Sum.whole g.met.S.Sum.small xs k lt in (
       omega arith,
       omega (arith, inv.1, here, more.0),

@@ -12,10 +12,10 @@ use Rattle.rope_read.specs.declared.locating.Spot.{Spot}
 use Rattle.rope_read.proofs.points.seek.Given as given
 use Rattle.rope_read.proofs.points.seek.Goals as goal
 
-pub returns-then-is-none : goal.returns-then-is-none
-returns-then-is-none g c =
+pub returns-then-is_none : goal.returns-then-is_none
+returns-then-is_none g c =
     let sums = g.S.Sum.sums in
-    let e = text_none _ _ (eqb-true _ _ (sym c.if-is-none.ensures)) c.requires.rope in
+    let e = text_none _ _ (eqb-true _ _ (sym c.if-is_none.ensures)) c.requires.rope in
     let z = sums_none sums g.met.S.Sum.whole in
     record {
       value = record { within = omega arith; reaches = omega (arith, z, ap sums e, c.requires.reached); least = λ q h. absurd (omega arith) };
@@ -28,15 +28,15 @@ locate-spot-requires g c =
     let t = text (g.W.Words.row c.args.words.now) c.args.p.0 in
     let is : sum_at t c.index-by.result ≡ g.S.Sum.sums t = ap (sum_at t) c.index-by.ensures ∙ g.met.S.Sum.stands t in
     record {
-      rope = lends_some _ _ (eqb-false _ _ (sym c.if-is-none.ensures)) c.requires.rope;
+      rope = lends_some _ _ (eqb-false _ _ (sym c.if-is_none.ensures)) c.requires.rope;
       reaches = record { known_by = omega (arith, c.index-by.ensures, g.met.S.Sum.known); known_of = omega (arith, c.index-of.ensures); reach = omega (arith, is, c.requires.reached) };
     }
 
-pub overflow-sub-n : goal.overflow-sub-n
-overflow-sub-n g c = by_within _ _ _ _ c.locate-spot.ensures.value
+pub overflow_sub-n : goal.overflow_sub-n
+overflow_sub-n g c = by_within _ _ _ _ c.locate-spot.ensures.value
 
-pub reach-in-requires : goal.reach-in-requires
-reach-in-requires g c =
+pub reach_in-requires : goal.reach_in-requires
+reach_in-requires g c =
     let sums = g.S.Sum.sums in
     let y = c.locate-spot.ensures.value in
     let r = c.locate-spot.result in
@@ -53,17 +53,17 @@ reached g t n k w r is_by is_of y x =
     let of : r.of ≡ length y.before = y.of_is ∙ (ap (sum_at y.before) is_of ∙ sum_first y.before) in
     reached_is t n w r y sums g.met.S.Sum.whole k (y.by_is ∙ by) of (subst (λ z. Reached sums z (n - r.by) k) (leaf_whole r.leaf y.here y.leaf) x) (λ h. omega (arith, y.late h, by))
 
-pub overflow-add-result : goal.overflow-add-result
-overflow-add-result g c =
-    let x = reached g _ c.args.n _ _ _ c.index-by.ensures c.index-of.ensures c.locate-spot.ensures.value c.reach-in.ensures.value in
+pub overflow_add-result : goal.overflow_add-result
+overflow_add-result g c =
+    let x = reached g _ c.args.n _ _ _ c.index-by.ensures c.index-of.ensures c.locate-spot.ensures.value c.reach_in.ensures.value in
     let few = text_few _ _ c.requires.rope in
-    let fits : c.locate-spot.result.of + c.reach-in.result < 536870912 = omega (arith, x.within) in
+    let fits : c.locate-spot.result.of + c.reach_in.result < 536870912 = omega (arith, x.within) in
     search rules
 
 pub returns : goal.returns
 returns g c =
     record {
-      value = reached g _ c.args.n _ _ _ c.index-by.ensures c.index-of.ensures c.locate-spot.ensures.value c.reach-in.ensures.value;
+      value = reached g _ c.args.n _ _ _ c.index-by.ensures c.index-of.ensures c.locate-spot.ensures.value c.reach_in.ensures.value;
       same = c.locate-spot.ensures.same;
       touches = omega (arith, c.locate-spot.ensures.touches);
     }

@@ -5,31 +5,31 @@ use Rattle.rope_read.proofs.Spots.{inside_some}
 use Rattle.rope_read.proofs.Spans.{range_none, short_leaf, filled_all, price_all}
 use Rattle.rope_read.proofs.ranges.read.Goals as goal
 
-pub returns-then-is-empty : goal.returns-then-is-empty
-returns-then-is-empty g c =
-    record { value = range_none c.args.into.now _ (eqb-true _ _ (sym c.if-is-empty.ensures)); same = refl; touches = omega arith }
+pub returns-then-is_empty : goal.returns-then-is_empty
+returns-then-is_empty g c =
+    record { value = range_none c.args.into.now _ (eqb-true _ _ (sym c.if-is_empty.ensures)); same = refl; touches = omega arith }
 
-pub read-in-leaf-requires : goal.read-in-leaf-requires
-read-in-leaf-requires g c =
+pub read_in_leaf-requires : goal.read_in_leaf-requires
+read_in_leaf-requires g c =
     let size = c.len-size.ensures in
-    let some : length c.args.into.now ≢ 0 = eqb-false _ _ (sym c.if-is-empty.ensures) in
+    let some : length c.args.into.now ≢ 0 = eqb-false _ _ (sym c.if-is_empty.ensures) in
     record {
-      rope = rw size.same (short_leaf _ _ c.requires.rope (omega (arith, size.value, c.if-size-lt-LEAF-MIN.true)) (omega (arith, c.requires.inside, some)));
+      rope = rw size.same (short_leaf _ _ c.requires.rope (omega (arith, size.value, c.if-size-lt-LEAF_MIN.true)) (omega (arith, c.requires.inside, some)));
       inside = rw size.same c.requires.inside;
     }
 
-pub read-part-requires : goal.read-part-requires
-read-part-requires g c =
+pub read_part-requires : goal.read_part-requires
+read_part-requires g c =
     let size = c.len-size.ensures in
     record {
-      rope = rw size.same (filled_all _ _ _ c.requires.rope size.value (omega (arith, c.if-size-lt-LEAF-MIN.false)));
+      rope = rw size.same (filled_all _ _ _ c.requires.rope size.value (omega (arith, c.if-size-lt-LEAF_MIN.false)));
       inside = omega (arith, size.value, c.requires.inside);
     }
 
-pub returns-else-size-lt-LEAF-MIN : goal.returns-else-size-lt-LEAF-MIN
-returns-else-size-lt-LEAF-MIN g c =
+pub returns-else-size-lt-LEAF_MIN : goal.returns-else-size-lt-LEAF_MIN
+returns-else-size-lt-LEAF_MIN g c =
     let size = c.len-size.ensures in
-    let down = c.read-part.ensures in
+    let down = c.read_part.ensures in
     record {
       value = rw size.same at down.value;
       same = down.same ∙ size.same;

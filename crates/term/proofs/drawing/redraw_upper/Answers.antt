@@ -5,13 +5,13 @@ use Rattle.term_rows.specs.Lent.{Lent}
 use Rattle.term.proofs.Scenes.{height}
 use Rattle.term.proofs.Upper.{row_says, still_redrawable, upper_row, upper_skip, upper_refused, touches_row, touches_skip, touches_refused}
 use Rattle.term.proofs.drawing.redraw_upper.Goals as goal
-use Rattle.term.proofs.drawing.redraw_upper.Goals.{then-row-cursor-row+in-ok-at, else-row-cursor-row}
+use Rattle.term.proofs.drawing.redraw_upper.Goals.{then-row-cursor-row+in-ok-at, else-row-cursor_row}
 
 pub loop-row-init : goal.loop-row-init
 loop-row-init g c = (λ start z. z, refl, c.requires.ready, omega arith, refl)
 
-pub redraw-row-requires : goal.redraw-row-requires
-redraw-row-requires g c =
+pub redraw_row-requires : goal.redraw_row-requires
+redraw_row-requires g c =
     let e : g.C.Change.scene c.loop-row.change ≡ g.C.Change.scene c.args.change.now = c.loop-row.invariant.1 in
     record {
       ready = c.loop-row.invariant.2;
@@ -20,17 +20,17 @@ redraw-row-requires g c =
       within = omega (arith, ap height e, c.requires.within);
     }
 
-pub returns-in-err-at : goal.returns-in-err-at
-returns-in-err-at g c =
+pub returns-in_err-at : goal.returns-in_err-at
+returns-in_err-at g c =
     let s : Scene = g.C.Change.scene c.args.change.now in
     let e : g.C.Change.scene c.loop-row.change ≡ s = c.loop-row.invariant.1 in
-    let o = c.in-err-at.ensures in
-    let w = row_says _ (g.W.ByteWriter.written c.redraw-row.new.writer) _ _ _ c.loop-row.row _ s c.loop-row.at None c.loop-row.auto.old e o.says in
+    let o = c.in_err-at.ensures in
+    let w = row_says _ (g.W.ByteWriter.written c.redraw_row.new.writer) _ _ _ c.loop-row.row _ s c.loop-row.at None c.loop-row.auto.old e o.says in
     record {
-      says = rw c.from-residual.ensures (upper_refused _ _ _ s c.requires.pictures c.requires.within _ _ _ _ c.loop-row.row _ _ _ c.loop-row-test.true c.if-row-cursor-row.true c.loop-row.invariant.0 (rw (ap (λ (x : Lent). x.capacity) c.loop-row.invariant.4) at w));
+      says = rw c.from_residual.ensures (upper_refused _ _ _ s c.requires.pictures c.requires.within _ _ _ _ c.loop-row.row _ _ _ c.loop-row-test.true c.if-row-cursor_row.true c.loop-row.invariant.0 (rw (ap (λ (x : Lent). x.capacity) c.loop-row.invariant.4) at w));
       stays = o.stays ∙ e;
       still_ready = o.still_ready;
-      touches = touches_refused c.args.last c.args.cursor_row c.loop-row.row _ _ _ _ _ _ c.loop-row-test.true c.if-row-cursor-row.true (ap (λ (x : Scene). 2 * x.row_touches) e) c.loop-row.invariant.3 o.touches;
+      touches = touches_refused c.args.last c.args.cursor_row c.loop-row.row _ _ _ _ _ _ c.loop-row-test.true c.if-row-cursor_row.true (ap (λ (x : Scene). 2 * x.row_touches) e) c.loop-row.invariant.3 o.touches;
       same = o.same ∙ c.loop-row.invariant.4;
     }
 
@@ -38,23 +38,23 @@ pub loop-row-preserved : goal.loop-row-preserved
 loop-row-preserved g c =
     let s : Scene = g.C.Change.scene c.args.change.now in
     let e : g.C.Change.scene c.loop-row.change ≡ s = c.loop-row.invariant.1 in
-    elim c.if-row-cursor-row.branch [
+    elim c.if-row-cursor_row.branch [
       | then-row-cursor-row+in-ok-at w ↦
-          let o = w.in-ok-at.ensures in
-          let q = row_says _ (g.W.ByteWriter.written w.redraw-row.new.writer) 0 _ _ c.loop-row.row _ s c.loop-row.at (Some w.in-ok-at.at) c.loop-row.auto.old e o.says in
+          let o = w.in_ok-at.ensures in
+          let q = row_says _ (g.W.ByteWriter.written w.redraw_row.new.writer) 0 _ _ c.loop-row.row _ s c.loop-row.at (Some w.in_ok-at.at) c.loop-row.auto.old e o.says in
           rw (w.change-is, w.writer-is, w.at_is) (
-            upper_row _ _ _ s c.requires.pictures c.requires.within _ _ _ _ _ c.loop-row.row _ _ _ _ c.loop-row-test.true w.if-row-cursor-row.true c.loop-row.invariant.0 q,
+            upper_row _ _ _ s c.requires.pictures c.requires.within _ _ _ _ _ c.loop-row.row _ _ _ _ c.loop-row-test.true w.if-row-cursor_row.true c.loop-row.invariant.0 q,
             o.stays ∙ e,
             o.still_ready,
-            touches_row c.args.last c.args.cursor_row c.loop-row.row _ _ _ _ _ _ c.loop-row-test.true w.if-row-cursor-row.true (ap (λ (x : Scene). 2 * x.row_touches) e) c.loop-row.invariant.3 o.touches,
+            touches_row c.args.last c.args.cursor_row c.loop-row.row _ _ _ _ _ _ c.loop-row-test.true w.if-row-cursor_row.true (ap (λ (x : Scene). 2 * x.row_touches) e) c.loop-row.invariant.3 o.touches,
             o.same ∙ c.loop-row.invariant.4,
           )
-      | else-row-cursor-row w ↦
+      | else-row-cursor_row w ↦
           rw (w.change-is, w.writer-is, w.at_is) (
-            upper_skip _ _ _ s c.requires.pictures c.requires.within _ _ _ _ c.loop-row.row _ _ w.if-row-cursor-row.false c.loop-row.invariant.0,
+            upper_skip _ _ _ s c.requires.pictures c.requires.within _ _ _ _ c.loop-row.row _ _ w.if-row-cursor_row.false c.loop-row.invariant.0,
             e,
             c.loop-row.invariant.2,
-            touches_skip c.args.last c.args.cursor_row c.loop-row.row _ _ _ _ c.loop-row-test.true w.if-row-cursor-row.false c.loop-row.invariant.3,
+            touches_skip c.args.last c.args.cursor_row c.loop-row.row _ _ _ _ c.loop-row-test.true w.if-row-cursor_row.false c.loop-row.invariant.3,
             c.loop-row.invariant.4,
           )
     ]

@@ -17,16 +17,16 @@ returns g c =
     let rows : ℕ = length s.before.rows in
     let columns : ℕ = length c.args.new.now in
     let e : c.rows-rows.result ≡ rows = c.rows-rows.ensures in
-    let h = c.repaint-rows-at.ensures in
+    let h = c.repaint_rows-at.ensures in
     let row : _ ≡ s.after.cursor_row = ap (λ (x : Scene). x.after.cursor_row) h.stays in
     let column : _ ≡ s.after.cursor_column = ap (λ (x : Scene). x.after.cursor_column) h.stays in
-    let begun : PaintSent [] (take c.begin-painting.new.writer.used c.begin-painting.new.writer.bytes.now) rows columns s.after (from_row 0) 0 0 = paint_begun [] _ rows columns s.after c.requires.picture c.begin-painting.ensures.says in
-    let sent : PaintSent [] (take c.repaint-rows-at.new.writer.used c.repaint-rows-at.new.writer.bytes.now) rows columns s.after (from_row rows) c.repaint-rows-at.result.row c.repaint-rows-at.result.column = paint_says _ _ _ rows columns s.after c.repaint-rows-at.result e h.says [] begun in
+    let begun : PaintSent [] (take c.begin_painting.new.writer.used c.begin_painting.new.writer.bytes.now) rows columns s.after (from_row 0) 0 0 = paint_begun [] _ rows columns s.after c.requires.picture c.begin_painting.ensures.says in
+    let sent : PaintSent [] (take c.repaint_rows-at.new.writer.used c.repaint_rows-at.new.writer.bytes.now) rows columns s.after (from_row rows) c.repaint_rows-at.result.row c.repaint_rows-at.result.column = paint_says _ _ _ rows columns s.after c.repaint_rows-at.result e h.says [] begun in
     let long = long_says _ _ _ rows (16 + columns) e h.long in
-    let d : Painted [] (take c.place-cursor.new.writer.used c.place-cursor.new.writer.bytes.now) rows columns s.after =
-    painted [] _ _ rows columns s.after rows c.repaint-rows-at.result.row c.repaint-rows-at.result.column c.requires.picture (omega arith) sent (step_to _ _ c.repaint-rows-at.result.row c.repaint-rows-at.result.column _ _ _ _ c.place-cursor.ensures.says row column) in
+    let d : Painted [] (take c.place_cursor.new.writer.used c.place_cursor.new.writer.bytes.now) rows columns s.after =
+    painted [] _ _ rows columns s.after rows c.repaint_rows-at.result.row c.repaint_rows-at.result.column c.requires.picture (omega arith) sent (step_to _ _ c.repaint_rows-at.result.row c.repaint_rows-at.result.column _ _ _ _ c.place_cursor.ensures.says row column) in
     record {
-      says = painted_front _ c.place-cursor.new.writer.bytes.now c.place-cursor.new.writer.used _ _ _ _ _ (search rules) d c.count.ensures (ap (λ (x : Lent). x.capacity) (c.place-cursor.ensures.same ∙ h.same ∙ c.begin-painting.ensures.same)) (omega (arith, c.count.ensures, c.place-cursor.ensures.long, long, c.begin-painting.ensures.long));
+      says = painted_front _ c.place_cursor.new.writer.bytes.now c.place_cursor.new.writer.used _ _ _ _ _ (search rules) d c.count.ensures (ap (λ (x : Lent). x.capacity) (c.place_cursor.ensures.same ∙ h.same ∙ c.begin_painting.ensures.same)) (omega (arith, c.count.ensures, c.place_cursor.ensures.long, long, c.begin_painting.ensures.long));
       stays = h.stays;
       still_ready = h.still_ready;
       touches = long_says _ _ _ rows s.row_touches e h.touches;

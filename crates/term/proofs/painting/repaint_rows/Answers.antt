@@ -7,8 +7,8 @@ use Rattle.term.proofs.painting.repaint_rows.Goals as goal
 pub loop-row-init : goal.loop-row-init
 loop-row-init g c = (λ start z. z, omega arith, refl, c.requires.ready, omega arith, refl)
 
-pub read-after-requires : goal.read-after-requires
-read-after-requires g c =
+pub read_after-requires : goal.read_after-requires
+read_after-requires g c =
     let e : g.C.Change.scene c.loop-row.change ≡ g.C.Change.scene c.args.change.now = c.loop-row.invariant.2 in
     record {
       ready = c.loop-row.invariant.3;
@@ -16,16 +16,16 @@ read-after-requires g c =
       width = rw e (row_length c.args.rows (length c.args.new.now) c.loop-row.row _ c.requires.picture c.loop-row-test.true ∙ sym c.loop-row.auto.new);
     }
 
-pub whole-row-requires : goal.whole-row-requires
-whole-row-requires g c = omega (arith, c.read-after.auto.into, c.loop-row.auto.new, c.requires.picture.column_within)
+pub whole_row-requires : goal.whole_row-requires
+whole_row-requires g c = omega (arith, c.read_after.auto.into, c.loop-row.auto.new, c.requires.picture.column_within)
 
-pub write-update-at-requires : goal.write-update-at-requires
-write-update-at-requires g c =
-    let l : length c.read-after.new.into ≡ length c.args.new.now = c.read-after.auto.into ∙ c.loop-row.auto.new in
-    let u = c.whole-row.ensures.whole.updates c.read-after.new.into refl in
+pub write_update-at-requires : goal.write_update-at-requires
+write_update-at-requires g c =
+    let l : length c.read_after.new.into ≡ length c.args.new.now = c.read_after.auto.into ∙ c.loop-row.auto.new in
+    let u = c.whole_row.ensures.whole.updates c.read_after.new.into refl in
     let r = room_left c.loop-row.row c.args.rows _ _ (16 + length c.args.new.now) _ c.loop-row-test.true c.loop-row.invariant.1 c.requires.roomy in
     record {
-      within = (omega (arith, c.whole-row.ensures.from), (omega (arith, c.whole-row.ensures.from, u.from_within), u.to_within));
+      within = (omega (arith, c.whole_row.ensures.from), (omega (arith, c.whole_row.ensures.from, u.from_within), u.to_within));
       small = (omega (arith, c.loop-row-test.true, c.requires.picture.few_rows), omega (arith, l, c.requires.picture.few_columns));
       roomy = omega (arith, l, r, ap (λ (x : Lent). x.capacity) c.loop-row.invariant.5);
     }
@@ -34,14 +34,14 @@ pub loop-row-preserved : goal.loop-row-preserved
 loop-row-preserved g c =
     let s : Scene = g.C.Change.scene c.args.change.now in
     let e : g.C.Change.scene c.loop-row.change ≡ s = c.loop-row.invariant.2 in
-    let l : length c.read-after.new.into ≡ length c.args.new.now = c.read-after.auto.into ∙ c.loop-row.auto.new in
-    let n : c.read-after.new.into ≡ get_or s.after.rows c.loop-row.row [] = c.read-after.ensures.copied ∙ ap (λ (x : Scene). get_or x.after.rows c.loop-row.row []) e in (
-      paint_more _ _ _ c.args.rows (length c.args.new.now) c.loop-row.row _ _ _ s.after c.read-after.new.into _ _ _ _ c.requires.picture c.loop-row-test.true n c.whole-row.ensures.from c.whole-row.ensures.whole c.write-update-at.ensures.says c.write-update-at.ensures.at_row c.write-update-at.ensures.at_column c.loop-row.invariant.0,
-      each_more c.loop-row.row c.args.rows _ _ _ _ _ c.loop-row-test.true (ap (λ (x : ℕ). 16 + x) l) c.loop-row.invariant.1 c.write-update-at.ensures.long,
-      c.read-after.ensures.same ∙ e,
-      c.read-after.ensures.still_ready,
-      each_more c.loop-row.row c.args.rows _ _ _ _ _ c.loop-row-test.true (ap (λ (x : Scene). x.row_touches) e) c.loop-row.invariant.4 c.read-after.ensures.touches,
-      c.write-update-at.ensures.same ∙ c.loop-row.invariant.5,
+    let l : length c.read_after.new.into ≡ length c.args.new.now = c.read_after.auto.into ∙ c.loop-row.auto.new in
+    let n : c.read_after.new.into ≡ get_or s.after.rows c.loop-row.row [] = c.read_after.ensures.copied ∙ ap (λ (x : Scene). get_or x.after.rows c.loop-row.row []) e in (
+      paint_more _ _ _ c.args.rows (length c.args.new.now) c.loop-row.row _ _ _ s.after c.read_after.new.into _ _ _ _ c.requires.picture c.loop-row-test.true n c.whole_row.ensures.from c.whole_row.ensures.whole c.write_update-at.ensures.says c.write_update-at.ensures.at_row c.write_update-at.ensures.at_column c.loop-row.invariant.0,
+      each_more c.loop-row.row c.args.rows _ _ _ _ _ c.loop-row-test.true (ap (λ (x : ℕ). 16 + x) l) c.loop-row.invariant.1 c.write_update-at.ensures.long,
+      c.read_after.ensures.same ∙ e,
+      c.read_after.ensures.still_ready,
+      each_more c.loop-row.row c.args.rows _ _ _ _ _ c.loop-row-test.true (ap (λ (x : Scene). x.row_touches) e) c.loop-row.invariant.4 c.read_after.ensures.touches,
+      c.write_update-at.ensures.same ∙ c.loop-row.invariant.5,
     )
 
 pub returns : goal.returns

@@ -20,14 +20,14 @@ column_left_out c h = rw (eq-eqb c 0 (omega arith))
 
 pub returns : goal.returns
 returns g c =
-    let a : g.W.ByteWriter.written c.if-to-gt0.writer ≡ g.W.ByteWriter.written c.write-byte-2.new.self ++ row_number c.args.to.row =
+    let a : g.W.ByteWriter.written c.if-to-gt0.writer ≡ g.W.ByteWriter.written c.write_byte-2.new.self ++ row_number c.args.to.row =
     elim c.if-to-gt0.branch [
-      | then-to-gt0 w ↦ rw (row_there c.args.to.row w.if-to-gt0.true) (ap g.W.ByteWriter.written w.writer-is ∙ w.write-number.ensures.says ∙ simp w.from-one.ensures)
+      | then-to-gt0 w ↦ rw (row_there c.args.to.row w.if-to-gt0.true) (ap g.W.ByteWriter.written w.writer-is ∙ w.write_number.ensures.says ∙ simp w.from_one.ensures)
       | else-to-gt0 w ↦ rw (row_left_out c.args.to.row w.if-to-gt0.false) (ap g.W.ByteWriter.written w.writer-is ∙ sym (append-nil _))
     ] in
     let b : g.W.ByteWriter.written c.if-to-gt0-2.writer ≡ g.W.ByteWriter.written c.if-to-gt0.writer ++ column_number c.args.to.column =
     elim c.if-to-gt0-2.branch [
-      | then-to-gt0-2 w ↦ rw (column_there c.args.to.column w.if-to-gt0-2.true) (ap g.W.ByteWriter.written w.writer-is ∙ w.write-number-then-to-gt0-2.ensures.says ∙ simp (w.write-byte-then-to-gt0-2.ensures.says, w.from-one-then-to-gt0-2.ensures, append_assoc))
+      | then-to-gt0-2 w ↦ rw (column_there c.args.to.column w.if-to-gt0-2.true) (ap g.W.ByteWriter.written w.writer-is ∙ w.write_number-then-to-gt0-2.ensures.says ∙ simp (w.write_byte-then-to-gt0-2.ensures.says, w.from_one-then-to-gt0-2.ensures, append_assoc))
       | else-to-gt0-2 w ↦ rw (column_left_out c.args.to.column w.if-to-gt0-2.false) (ap g.W.ByteWriter.written w.writer-is ∙ sym (append-nil _))
     ] in
-    record { says = c.write-byte-3.ensures.says ∙ simp (b, a, c.write-byte-2.ensures.says, c.write-byte.ensures.says, append_assoc); long = search rules; same = search rules }
+    record { says = c.write_byte-3.ensures.says ∙ simp (b, a, c.write_byte-2.ensures.says, c.write_byte.ensures.says, append_assoc); long = search rules; same = search rules }

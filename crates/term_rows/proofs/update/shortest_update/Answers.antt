@@ -4,6 +4,6 @@ use Rattle.term_rows.proofs.update.shortest_update.Goals as goal
 
 pub returns-then-from-old : goal.returns-then-from-old
 returns-then-from-old c =
-    let a = take_all c.first-difference-from.result c.args.old.now (omega arith) in
-    let b = take_all c.first-difference-from.result c.args.new.now (omega arith) in
+    let a = take_all c.first_difference-from.result c.args.old.now (omega arith) in
+    let b = take_all c.first_difference-from.result c.args.new.now (omega arith) in
     cc

@@ -9,6 +9,6 @@ returns-else-blanks-new c =
       whole = record {
         updates = λ old l. record { same_before = refl; from_within = omega arith; ordered = omega arith; to_within = omega arith; rest = drop_all (length c.args.new.now) old (omega arith) ∙ sym (drop_all (length c.args.new.now) c.args.new.now (omega arith)) };
         no_longer = omega arith;
-        no_shorter_clear = λ k e. omega (arith, c.blank-from-blanks.ensures.least k (omega arith) e);
+        no_shorter_clear = λ k e. omega (arith, c.blank_from-blanks.ensures.least k (omega arith) e);
       };
     }

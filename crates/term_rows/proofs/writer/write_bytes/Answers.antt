@@ -3,8 +3,8 @@ use Rattle.std.proofs.lemmas.List.{take_more, take_all}
 use Rattle.term_rows.specs.Lent.{Lent}
 use Rattle.term_rows.proofs.writer.write_bytes.Goals as goal
 
-pub write-byte-requires : goal.write-byte-requires
-write-byte-requires g c = omega (arith, ap (λ (x : Lent). x.capacity) c.loop-b.invariant.2)
+pub write_byte-requires : goal.write_byte-requires
+write_byte-requires g c = omega (arith, ap (λ (x : Lent). x.capacity) c.loop-b.invariant.2)
 
 pub loop-b-preserved : goal.loop-b-preserved
 loop-b-preserved g c =

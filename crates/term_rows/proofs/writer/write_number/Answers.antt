@@ -16,17 +16,17 @@ returns g c =
     let n : ℕ = c.args.n in
     let a : g.W.ByteWriter.written c.if-n-ge1000.writer ≡ g.W.ByteWriter.written c.args.writer.now ++ digit_from 1000 n (n / 10 / 10 / 10 % 10 + 48) =
     elim c.if-n-ge1000.branch [
-      | then-n-ge1000 w ↦ there 1000 n _ _ _ _ w.if-n-ge1000.true w.last-digit.ensures (ap g.W.ByteWriter.written w.writer-is ∙ w.write-byte.ensures.says)
+      | then-n-ge1000 w ↦ there 1000 n _ _ _ _ w.if-n-ge1000.true w.last_digit.ensures (ap g.W.ByteWriter.written w.writer-is ∙ w.write_byte.ensures.says)
       | else-n-ge1000 w ↦ left_out 1000 n _ _ _ w.if-n-ge1000.false (ap g.W.ByteWriter.written w.writer-is)
     ] in
     let b : g.W.ByteWriter.written c.if-n-ge100.writer ≡ g.W.ByteWriter.written c.if-n-ge1000.writer ++ digit_from 100 n (n / 10 / 10 % 10 + 48) =
     elim c.if-n-ge100.branch [
-      | then-n-ge100 w ↦ there 100 n _ _ _ _ w.if-n-ge100.true w.last-digit-then-n-ge100.ensures (ap g.W.ByteWriter.written w.writer-is ∙ w.write-byte-then-n-ge100.ensures.says)
+      | then-n-ge100 w ↦ there 100 n _ _ _ _ w.if-n-ge100.true w.last_digit-then-n-ge100.ensures (ap g.W.ByteWriter.written w.writer-is ∙ w.write_byte-then-n-ge100.ensures.says)
       | else-n-ge100 w ↦ left_out 100 n _ _ _ w.if-n-ge100.false (ap g.W.ByteWriter.written w.writer-is)
     ] in
     let d : g.W.ByteWriter.written c.if-n-ge10.writer ≡ g.W.ByteWriter.written c.if-n-ge100.writer ++ digit_from 10 n (n / 10 % 10 + 48) =
     elim c.if-n-ge10.branch [
-      | then-n-ge10 w ↦ there 10 n _ _ _ _ w.if-n-ge10.true w.last-digit-then-n-ge10.ensures (ap g.W.ByteWriter.written w.writer-is ∙ w.write-byte-then-n-ge10.ensures.says)
+      | then-n-ge10 w ↦ there 10 n _ _ _ _ w.if-n-ge10.true w.last_digit-then-n-ge10.ensures (ap g.W.ByteWriter.written w.writer-is ∙ w.write_byte-then-n-ge10.ensures.says)
       | else-n-ge10 w ↦ left_out 10 n _ _ _ w.if-n-ge10.false (ap g.W.ByteWriter.written w.writer-is)
     ] in
-    record { says = c.write-byte-2.ensures.says ∙ simp (c.last-digit-2.ensures, d, b, a, append_assoc, decimal_parts n c.requires.0); long = search rules; same = search rules }
+    record { says = c.write_byte-2.ensures.says ∙ simp (c.last_digit-2.ensures, d, b, a, append_assoc, decimal_parts n c.requires.0); long = search rules; same = search rules }

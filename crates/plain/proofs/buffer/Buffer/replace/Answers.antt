@@ -16,8 +16,8 @@ pub returns : goal.returns
 returns c = (
   pasted c.args.from c.args.to c.args.new.now
       c.new-text.ensures.items c.deref.ensures.value c.deref-2.ensures.value
-      c.in-ok-extend-from-slice.ensures.items
-      c.in-ok-extend-from-slice-2.ensures.items
-      c.in-ok-extend-from-slice-3.ensures.items,
+      c.in_ok-extend_from_slice.ensures.items
+      c.in_ok-extend_from_slice-2.ensures.items
+      c.in_ok-extend_from_slice-3.ensures.items,
   refl,
 )

@@ -2,6 +2,6 @@ use Rattle.std.proofs.Common.{arith}
 use Rattle.plain_terminal.proofs.Cells.{row_within}
 use Rattle.plain_terminal.proofs.terminal.Terminal.clear_rest.Goals as goal
 
-pub slice-bounds-fill-end : goal.slice-bounds-fill-end
-slice-bounds-fill-end c =
+pub slice_bounds-fill-end : goal.slice_bounds-fill-end
+slice_bounds-fill-end c =
     omega (arith, row_within c.args.self.now.row c.args.self.now.columns c.args.self.now.rows (omega arith))

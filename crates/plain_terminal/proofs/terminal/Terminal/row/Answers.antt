@@ -2,5 +2,5 @@ use Rattle.std.proofs.Common.{arith}
 use Rattle.plain_terminal.proofs.Cells.{row_within}
 use Rattle.plain_terminal.proofs.terminal.Terminal.row.Goals as goal
 
-pub slice-bounds-result-end : goal.slice-bounds-result-end
-slice-bounds-result-end c = omega (arith, row_within c.args.row c.args.self.now.columns c.args.self.now.rows (omega arith))
+pub slice_bounds-result-end : goal.slice_bounds-result-end
+slice_bounds-result-end c = omega (arith, row_within c.args.row c.args.self.now.columns c.args.self.now.rows (omega arith))

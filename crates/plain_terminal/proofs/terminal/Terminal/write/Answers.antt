@@ -2,6 +2,6 @@ use Rattle.std.proofs.Common.{arith}
 use Rattle.plain_terminal.proofs.Cells.{row_within}
 use Rattle.plain_terminal.proofs.terminal.Terminal.write.Goals as goal
 
-pub index-mut-requires : goal.index-mut-requires
-index-mut-requires c =
+pub index_mut-requires : goal.index_mut-requires
+index_mut-requires c =
     omega (arith, row_within c.args.self.now.row c.args.self.now.columns c.args.self.now.rows (omega arith))

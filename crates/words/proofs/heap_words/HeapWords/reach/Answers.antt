@@ -3,12 +3,12 @@ use Rattle.words.specs.Padded.{padded}
 use Rattle.words.proofs.Padding.{padded_more, padded_length}
 use Rattle.words.proofs.heap_words.HeapWords.reach.Goals as goal
 
-pub invariant-of-self : goal.invariant-of-self
-invariant-of-self c =
+pub invariant_of-self : goal.invariant_of-self
+invariant_of-self c =
     let s = c.args.self.now in
     let i = c.args.i in
-    let filled = ap length c.fill-up.ensures.items ∙ padded_length (vec_items s.items) (i + 1) (omega (arith, s.items.ok.0)) in
-    (omega arith, (omega (arith, s.reserved, c.fill-up.ensures.capacity), (s.counted, tt)))
+    let filled = ap length c.fill_up.ensures.items ∙ padded_length (vec_items s.items) (i + 1) (omega (arith, s.items.ok.0)) in
+    (omega arith, (omega (arith, s.reserved, c.fill_up.ensures.capacity), (s.counted, tt)))
 
 pub returns-then-i-len : goal.returns-then-i-len
 returns-then-i-len c =
