@@ -5,6 +5,7 @@ use arguments::{Refusal, Words, read_file};
 use plain::{Editor, Size};
 use std::alloc::Global;
 use std::io::Write;
+use std::process::ExitCode;
 
 const USAGE: &str = "play TEXT KEYS";
 
@@ -36,10 +37,12 @@ fn run(rt: &HostRuntime) -> Result<(), Refusal> {
     Ok(())
 }
 
-fn main(rt: HostRuntime) -> Result<(), Refusal> {
-    let result = run(&rt);
-    if let Err(refusal) = &result {
-        let _ = eprintln!(rt; "play: {refusal}");
+fn main(rt: HostRuntime) -> ExitCode {
+    match run(&rt) {
+        Ok(()) => ExitCode::SUCCESS,
+        Err(refusal) => {
+            let _ = eprintln!(rt; "play: {refusal}");
+            ExitCode::FAILURE
+        },
     }
-    result
 }

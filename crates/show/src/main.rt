@@ -5,6 +5,7 @@ use arguments::{Refusal, Words, read_file, screen_size};
 use plain::{Editor, Position, Size};
 use std::alloc::Global;
 use std::io::Write;
+use std::process::ExitCode;
 
 const USAGE: &str = "show TEXT KEYS ROWS COLS";
 
@@ -63,10 +64,12 @@ fn run(rt: &HostRuntime) -> Result<(), Refusal> {
     print_screens(rt, Editor::new(rt.alloc(), text, size), keys.as_slice())
 }
 
-fn main(rt: HostRuntime) -> Result<(), Refusal> {
-    let result = run(&rt);
-    if let Err(refusal) = &result {
-        let _ = eprintln!(rt; "show: {refusal}");
+fn main(rt: HostRuntime) -> ExitCode {
+    match run(&rt) {
+        Ok(()) => ExitCode::SUCCESS,
+        Err(refusal) => {
+            let _ = eprintln!(rt; "show: {refusal}");
+            ExitCode::FAILURE
+        },
     }
-    result
 }

@@ -8,7 +8,7 @@ invariant_of-self c =
     let s = c.args.self.now in
     let i = c.args.i in
     let filled = ap length c.fill_up.ensures.items ∙ padded_length (vec_items s.items) (i + 1) (omega (arith, s.items.ok.0)) in
-    (omega arith, (omega (arith, s.reserved, c.fill_up.ensures.capacity), (s.counted, tt)))
+    record { within = omega arith; reserved = omega (arith, s.reserved, c.fill_up.ensures.capacity); counted = s.counted }
 
 pub returns-then-i-len : goal.returns-then-i-len
 returns-then-i-len c =
