@@ -44,10 +44,10 @@ impl Ref {
 /// Word `k` of cell `p`.
 pub(crate) fn word<W: Words>(words: &mut W, p: Ref, k: usize) -> u32
     requires word { k < 16 }
-    requires within { 16 * p.0 + 16 ≤ length (row words.old) }
-    ensures value { result ≡ at (row words.old) p.0 k }
-    ensures same { row words.new ≡ row words.old }
-    ensures touches { touched words.new ≤ touched words.old + 1 }
+    requires within { 16 * p.0 + 16 ≤ length (W.Words.row words.old) }
+    ensures value { result ≡ at (W.Words.row words.old) p.0 k }
+    ensures same { W.Words.row words.new ≡ W.Words.row words.old }
+    ensures touches { W.touched words.new ≤ W.touched words.old + 1 }
 {
     words.get(16 * p.0 as usize + k)
 }
@@ -55,10 +55,10 @@ pub(crate) fn word<W: Words>(words: &mut W, p: Ref, k: usize) -> u32
 /// Writes word `k` of cell `p`.
 pub(crate) fn write<W: Words>(words: &mut W, p: Ref, k: usize, x: u32)
     requires word { k < 16 }
-    requires within { 16 * p.0 + 16 ≤ length (row words.old) }
-    ensures same { row words.new ≡ put (row words.old) p.0 k x }
-    ensures long { length (row words.new) ≡ length (row words.old) }
-    ensures touches { touched words.new ≤ touched words.old + 1 }
+    requires within { 16 * p.0 + 16 ≤ length (W.Words.row words.old) }
+    ensures same { W.Words.row words.new ≡ put (W.Words.row words.old) p.0 k x }
+    ensures long { length (W.Words.row words.new) ≡ length (W.Words.row words.old) }
+    ensures touches { W.touched words.new ≤ W.touched words.old + 1 }
 {
     words.put(16 * p.0 as usize + k, x);
 }

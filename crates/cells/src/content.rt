@@ -11,10 +11,10 @@ pub type Data = [u32; 13];
 /// Writes data word `k` of cell `p`.
 fn store_word<W: Words>(words: &mut W, p: Ref, k: usize, x: u32)
     requires word { k < 13 }
-    requires within { 16 * p.0 + 16 ≤ length (row words.old) }
-    ensures same { row words.new ≡ put (row words.old) p.0 (3 + k) x }
-    ensures long { length (row words.new) ≡ length (row words.old) }
-    ensures touches { touched words.new ≤ touched words.old + 1 }
+    requires within { 16 * p.0 + 16 ≤ length (W.Words.row words.old) }
+    ensures same { W.Words.row words.new ≡ put (W.Words.row words.old) p.0 (3 + k) x }
+    ensures long { length (W.Words.row words.new) ≡ length (W.Words.row words.old) }
+    ensures touches { W.touched words.new ≤ W.touched words.old + 1 }
 {
     write(words, p, DATA + k, x);
 }
@@ -22,20 +22,20 @@ fn store_word<W: Words>(words: &mut W, p: Ref, k: usize, x: u32)
 /// Data word `k` of cell `p`.
 pub(crate) fn load_word<W: Words>(words: &mut W, p: Ref, k: usize) -> u32
     requires word { k < 13 }
-    requires within { 16 * p.0 + 16 ≤ length (row words.old) }
-    ensures value { result ≡ at (row words.old) p.0 (3 + k) }
-    ensures same { row words.new ≡ row words.old }
-    ensures touches { touched words.new ≤ touched words.old + 1 }
+    requires within { 16 * p.0 + 16 ≤ length (W.Words.row words.old) }
+    ensures value { result ≡ at (W.Words.row words.old) p.0 (3 + k) }
+    ensures same { W.Words.row words.new ≡ W.Words.row words.old }
+    ensures touches { W.touched words.new ≤ W.touched words.old + 1 }
 {
     word(words, p, DATA + k)
 }
 
 /// Writes the data words of cell `p`.
 pub(crate) fn store<W: Words>(words: &mut W, p: Ref, data: Data)
-    requires within { 16 * p.0 + 16 ≤ length (row words.old) }
-    ensures same { row words.new ≡ over (row words.old) (16 * p.0 + 3) «data» }
-    ensures long { length (row words.new) ≡ length (row words.old) }
-    ensures touches { touched words.new ≤ touched words.old + 13 }
+    requires within { 16 * p.0 + 16 ≤ length (W.Words.row words.old) }
+    ensures same { W.Words.row words.new ≡ over (W.Words.row words.old) (16 * p.0 + 3) «data» }
+    ensures long { length (W.Words.row words.new) ≡ length (W.Words.row words.old) }
+    ensures touches { W.touched words.new ≤ W.touched words.old + 13 }
 {
     for k in 0..13 {
         store_word(words, p, k, data[k]);
@@ -44,10 +44,10 @@ pub(crate) fn store<W: Words>(words: &mut W, p: Ref, data: Data)
 
 /// The data words of cell `p`.
 pub(crate) fn load<W: Words>(words: &mut W, p: Ref) -> Data
-    requires within { 16 * p.0 + 16 ≤ length (row words.old) }
-    ensures value { result ≡ drop 3 (cell (row words.old) p.0) }
-    ensures same { row words.new ≡ row words.old }
-    ensures touches { touched words.new ≤ touched words.old + 13 }
+    requires within { 16 * p.0 + 16 ≤ length (W.Words.row words.old) }
+    ensures value { result ≡ drop 3 (cell (W.Words.row words.old) p.0) }
+    ensures same { W.Words.row words.new ≡ W.Words.row words.old }
+    ensures touches { W.touched words.new ≤ W.touched words.old + 13 }
 {
     let mut data = [0; 13];
     for k in 0..13 {

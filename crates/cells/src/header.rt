@@ -22,10 +22,10 @@ const HEADER_CELLS: u32 = 8;
 
 /// Writes 0 to each word of the header.
 fn clear<W: Words>(words: &mut W)
-    requires { 128 ≤ length (row words.old) }
-    ensures same { row words.new ≡ cleared (row words.old) 128 }
-    ensures long { length (row words.new) ≡ length (row words.old) }
-    ensures touches { touched words.new ≤ touched words.old + 128 }
+    requires { 128 ≤ length (W.Words.row words.old) }
+    ensures same { W.Words.row words.new ≡ cleared (W.Words.row words.old) 128 }
+    ensures long { length (W.Words.row words.new) ≡ length (W.Words.row words.old) }
+    ensures touches { W.touched words.new ≤ W.touched words.old + 128 }
 {
     for i in 0..HEADER_WORDS {
         words.put(i, 0);
@@ -34,18 +34,18 @@ fn clear<W: Words>(words: &mut W)
 
 /// Takes the header's own cells.
 fn take_header<W: Words>(words: &mut W)
-    requires { 128 ≤ length (row words.old) }
-    ensures same { row words.new ≡ slice_set (row words.old) 0 8 }
-    ensures touches { touched words.new ≤ touched words.old + 1 }
+    requires { 128 ≤ length (W.Words.row words.old) }
+    ensures same { W.Words.row words.new ≡ slice_set (W.Words.row words.old) 0 8 }
+    ensures touches { W.touched words.new ≤ W.touched words.old + 1 }
 {
     words.put(TAKEN, HEADER_CELLS);
 }
 
 /// A heap with no cell taken but the header's, and a state of zeros.
 pub fn new<W: Words>(words: &mut W)
-    requires { 128 ≤ length (row words.old) }
-    ensures begun { Begun (row words.old) (row words.new) }
-    ensures touches { touched words.new ≤ touched words.old + 129 }
+    requires { 128 ≤ length (W.Words.row words.old) }
+    ensures begun { Begun (W.Words.row words.old) (W.Words.row words.new) }
+    ensures touches { W.touched words.new ≤ W.touched words.old + 129 }
 {
     clear(words);
     take_header(words);
@@ -54,10 +54,10 @@ pub fn new<W: Words>(words: &mut W)
 /// Word `i` of the state.
 fn state_word<W: Words>(words: &mut W, i: usize) -> u32
     requires word { i < 112 }
-    requires long { 128 ≤ length (row words.old) }
-    ensures value { result ≡ slice_index (state (row words.old)) i }
-    ensures same { row words.new ≡ row words.old }
-    ensures touches { touched words.new ≤ touched words.old + 1 }
+    requires long { 128 ≤ length (W.Words.row words.old) }
+    ensures value { result ≡ slice_index (state (W.Words.row words.old)) i }
+    ensures same { W.Words.row words.new ≡ W.Words.row words.old }
+    ensures touches { W.touched words.new ≤ W.touched words.old + 1 }
 {
     words.get(STATE + i)
 }
@@ -65,10 +65,10 @@ fn state_word<W: Words>(words: &mut W, i: usize) -> u32
 /// Writes word `i` of the state.
 fn set_state_word<W: Words>(words: &mut W, i: usize, x: u32)
     requires word { i < 112 }
-    requires long { 128 ≤ length (row words.old) }
-    ensures state { state (row words.new) ≡ slice_set (state (row words.old)) i x }
-    ensures stays { Stays (row words.old) (row words.new) }
-    ensures touches { touched words.new ≤ touched words.old + 1 }
+    requires long { 128 ≤ length (W.Words.row words.old) }
+    ensures state { state (W.Words.row words.new) ≡ slice_set (state (W.Words.row words.old)) i x }
+    ensures stays { Stays (W.Words.row words.old) (W.Words.row words.new) }
+    ensures touches { W.touched words.new ≤ W.touched words.old + 1 }
 {
     words.put(STATE + i, x);
 }
@@ -76,10 +76,10 @@ fn set_state_word<W: Words>(words: &mut W, i: usize, x: u32)
 /// Reference `k` of the state.
 pub fn root<W: Words>(words: &mut W, k: usize) -> Ref
     requires root { k < 16 }
-    requires long { 128 ≤ length (row words.old) }
-    ensures value { result.0 ≡ slice_index (state (row words.old)) k }
-    ensures same { row words.new ≡ row words.old }
-    ensures touches { touched words.new ≤ touched words.old + 1 }
+    requires long { 128 ≤ length (W.Words.row words.old) }
+    ensures value { result.0 ≡ slice_index (state (W.Words.row words.old)) k }
+    ensures same { W.Words.row words.new ≡ W.Words.row words.old }
+    ensures touches { W.touched words.new ≤ W.touched words.old + 1 }
 {
     Ref(state_word(words, k))
 }
@@ -87,10 +87,10 @@ pub fn root<W: Words>(words: &mut W, k: usize) -> Ref
 /// Writes reference `k` of the state. What is held stays held: it is the caller who then counts `p` as held by the state, and what stood there as held no more.
 pub fn set_root<W: Words>(words: &mut W, k: usize, p: Ref)
     requires root { k < 16 }
-    requires long { 128 ≤ length (row words.old) }
-    ensures state { state (row words.new) ≡ slice_set (state (row words.old)) k p.0 }
-    ensures stays { Stays (row words.old) (row words.new) }
-    ensures touches { touched words.new ≤ touched words.old + 1 }
+    requires long { 128 ≤ length (W.Words.row words.old) }
+    ensures state { state (W.Words.row words.new) ≡ slice_set (state (W.Words.row words.old)) k p.0 }
+    ensures stays { Stays (W.Words.row words.old) (W.Words.row words.new) }
+    ensures touches { W.touched words.new ≤ W.touched words.old + 1 }
 {
     set_state_word(words, k, p.0);
 }
@@ -98,10 +98,10 @@ pub fn set_root<W: Words>(words: &mut W, k: usize, p: Ref)
 /// Number `k` of the state.
 pub fn scalar<W: Words>(words: &mut W, k: usize) -> u32
     requires scalar { k < 96 }
-    requires long { 128 ≤ length (row words.old) }
-    ensures value { result ≡ slice_index (state (row words.old)) (16 + k) }
-    ensures same { row words.new ≡ row words.old }
-    ensures touches { touched words.new ≤ touched words.old + 1 }
+    requires long { 128 ≤ length (W.Words.row words.old) }
+    ensures value { result ≡ slice_index (state (W.Words.row words.old)) (16 + k) }
+    ensures same { W.Words.row words.new ≡ W.Words.row words.old }
+    ensures touches { W.touched words.new ≤ W.touched words.old + 1 }
 {
     state_word(words, ROOTS + k)
 }
@@ -109,18 +109,18 @@ pub fn scalar<W: Words>(words: &mut W, k: usize) -> u32
 /// Writes number `k` of the state.
 pub fn set_scalar<W: Words>(words: &mut W, k: usize, x: u32)
     requires scalar { k < 96 }
-    requires long { 128 ≤ length (row words.old) }
-    ensures state { state (row words.new) ≡ slice_set (state (row words.old)) (16 + k) x }
-    ensures stays { Stays (row words.old) (row words.new) }
-    ensures touches { touched words.new ≤ touched words.old + 1 }
+    requires long { 128 ≤ length (W.Words.row words.old) }
+    ensures state { state (W.Words.row words.new) ≡ slice_set (state (W.Words.row words.old)) (16 + k) x }
+    ensures stays { Stays (W.Words.row words.old) (W.Words.row words.new) }
+    ensures touches { W.touched words.new ≤ W.touched words.old + 1 }
 {
     set_state_word(words, ROOTS + k, x);
 }
 
 /// Takes up a heap that stands in the words already, with the state's references held. There is nothing to do: each of them stands for a tree.
 pub fn attach<W: Words>(words: &W)
-    requires { Sound (row words.now) (roots (row words.now)) }
-    ensures { (items : List Item) × (refs items ≡ roots (row words.now)) × Have (row words.now) items }
+    requires { Sound (W.Words.row words.now) (roots (W.Words.row words.now)) }
+    ensures { (items : List Item) × (refs items ≡ roots (W.Words.row words.now)) × Have (W.Words.row words.now) items }
 {
     let _ = words;
 }

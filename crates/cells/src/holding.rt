@@ -8,10 +8,10 @@ use words::Words;
 
 /// One more reference to what `p` refers to.
 pub fn share<W: Words>(words: &mut W, p: Ref)
-    requires { Sharing (row words.old) p.0 }
-    ensures shared { Shared (row words.old) (row words.new) p.0 }
-    ensures kept { Kept (row words.old) (row words.new) }
-    ensures touches { touched words.new ≤ touched words.old + 2 }
+    requires { Sharing (W.Words.row words.old) p.0 }
+    ensures shared { Shared (W.Words.row words.old) (W.Words.row words.new) p.0 }
+    ensures kept { Kept (W.Words.row words.old) (W.Words.row words.new) }
+    ensures touches { W.touched words.new ≤ W.touched words.old + 2 }
 {
     if p.0 != 0 {
         raise(words, p);
@@ -20,10 +20,10 @@ pub fn share<W: Words>(words: &mut W, p: Ref)
 
 /// One more in the count of `p`.
 fn raise<W: Words>(words: &mut W, p: Ref)
-    requires within { 16 * p.0 + 16 ≤ length (row words.old) }
-    requires fits { at (row words.old) p.0 0 < 4294967295 }
-    ensures same { row words.new ≡ put (row words.old) p.0 0 (at (row words.old) p.0 0 + 1) }
-    ensures touches { touched words.new ≤ touched words.old + 2 }
+    requires within { 16 * p.0 + 16 ≤ length (W.Words.row words.old) }
+    requires fits { at (W.Words.row words.old) p.0 0 < 4294967295 }
+    ensures same { W.Words.row words.new ≡ put (W.Words.row words.old) p.0 0 (at (W.Words.row words.old) p.0 0 + 1) }
+    ensures touches { W.touched words.new ≤ W.touched words.old + 2 }
 {
     let count = word(words, p, COUNT);
     write(words, p, COUNT, count + 1);
@@ -31,10 +31,10 @@ fn raise<W: Words>(words: &mut W, p: Ref)
 
 /// Lets a reference go. A cell that nothing refers to any more joins the dead ones, with its children.
 pub fn release<W: Words>(words: &mut W, p: Ref)
-    requires { Holding (row words.old) p.0 }
-    ensures released { Released (row words.old) (row words.new) p.0 }
-    ensures kept { Kept (row words.old) (row words.new) }
-    ensures touches { touched words.new ≤ touched words.old + 5 }
+    requires { Holding (W.Words.row words.old) p.0 }
+    ensures released { Released (W.Words.row words.old) (W.Words.row words.new) p.0 }
+    ensures kept { Kept (W.Words.row words.old) (W.Words.row words.new) }
+    ensures touches { W.touched words.new ≤ W.touched words.old + 5 }
 {
     if p.0 != 0 {
         let count = lower(words, p);
@@ -46,12 +46,12 @@ pub fn release<W: Words>(words: &mut W, p: Ref)
 
 /// One less in the count of `p`, and how many are left.
 fn lower<W: Words>(words: &mut W, p: Ref) -> u32
-    requires within { 16 * p.0 + 16 ≤ length (row words.old) }
-    requires live { 1 ≤ at (row words.old) p.0 0 }
-    ensures value { result + 1 ≡ at (row words.old) p.0 0 }
-    ensures same { row words.new ≡ put (row words.old) p.0 0 result }
-    ensures long { length (row words.new) ≡ length (row words.old) }
-    ensures touches { touched words.new ≤ touched words.old + 2 }
+    requires within { 16 * p.0 + 16 ≤ length (W.Words.row words.old) }
+    requires live { 1 ≤ at (W.Words.row words.old) p.0 0 }
+    ensures value { result + 1 ≡ at (W.Words.row words.old) p.0 0 }
+    ensures same { W.Words.row words.new ≡ put (W.Words.row words.old) p.0 0 result }
+    ensures long { length (W.Words.row words.new) ≡ length (W.Words.row words.old) }
+    ensures touches { W.touched words.new ≤ W.touched words.old + 2 }
 {
     let count = word(words, p, COUNT) - 1;
     write(words, p, COUNT, count);
@@ -60,9 +60,9 @@ fn lower<W: Words>(words: &mut W, p: Ref) -> u32
 
 /// Puts `p` before the dead cells.
 fn push_dead<W: Words>(words: &mut W, p: Ref)
-    requires within { 16 * p.0 + 16 ≤ length (row words.old) }
-    ensures same { row words.new ≡ with_dead (row words.old) p.0 }
-    ensures touches { touched words.new ≤ touched words.old + 3 }
+    requires within { 16 * p.0 + 16 ≤ length (W.Words.row words.old) }
+    ensures same { W.Words.row words.new ≡ with_dead (W.Words.row words.old) p.0 }
+    ensures touches { W.touched words.new ≤ W.touched words.old + 3 }
 {
     let first = word(words, HEADER, FIRST_DEAD);
     write(words, p, LINK, first);

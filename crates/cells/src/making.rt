@@ -29,11 +29,11 @@ struct Children {
 
 /// The children of `p`.
 fn children_of<W: Words>(words: &mut W, p: Ref) -> Children
-    requires within { 16 * p.0 + 16 ≤ length (row words.old) }
-    ensures left { result.left.0 ≡ at (row words.old) p.0 1 }
-    ensures right { result.right.0 ≡ at (row words.old) p.0 2 }
-    ensures same { row words.new ≡ row words.old }
-    ensures touches { touched words.new ≤ touched words.old + 2 }
+    requires within { 16 * p.0 + 16 ≤ length (W.Words.row words.old) }
+    ensures left { result.left.0 ≡ at (W.Words.row words.old) p.0 1 }
+    ensures right { result.right.0 ≡ at (W.Words.row words.old) p.0 2 }
+    ensures same { W.Words.row words.new ≡ W.Words.row words.old }
+    ensures touches { W.touched words.new ≤ W.touched words.old + 2 }
 {
     let left = left_of(words, p);
     let right = right_of(words, p);
@@ -42,10 +42,10 @@ fn children_of<W: Words>(words: &mut W, p: Ref) -> Children
 
 /// Gives `d` the count 1, these children and these data.
 fn fill<W: Words>(words: &mut W, d: Ref, left: Ref, right: Ref, data: Data)
-    requires within { 16 * d.0 + 16 ≤ length (row words.old) }
-    ensures same { row words.new ≡ filled (row words.old) d.0 left.0 right.0 «data» }
-    ensures long { length (row words.new) ≡ length (row words.old) }
-    ensures touches { touched words.new ≤ touched words.old + 16 }
+    requires within { 16 * d.0 + 16 ≤ length (W.Words.row words.old) }
+    ensures same { W.Words.row words.new ≡ filled (W.Words.row words.old) d.0 left.0 right.0 «data» }
+    ensures long { length (W.Words.row words.new) ≡ length (W.Words.row words.old) }
+    ensures touches { W.touched words.new ≤ W.touched words.old + 16 }
 {
     write(words, d, COUNT, 1);
     write(words, d, LEFT, left.0);
@@ -55,10 +55,10 @@ fn fill<W: Words>(words: &mut W, d: Ref, left: Ref, right: Ref, data: Data)
 
 /// Takes the first dead cell `d` from the dead ones.
 fn pop_dead<W: Words>(words: &mut W, d: Ref)
-    requires within { 16 * d.0 + 16 ≤ length (row words.old) }
-    ensures same { row words.new ≡ put (row words.old) 0 1 (at (row words.old) d.0 3) }
-    ensures long { length (row words.new) ≡ length (row words.old) }
-    ensures touches { touched words.new ≤ touched words.old + 2 }
+    requires within { 16 * d.0 + 16 ≤ length (W.Words.row words.old) }
+    ensures same { W.Words.row words.new ≡ put (W.Words.row words.old) 0 1 (at (W.Words.row words.old) d.0 3) }
+    ensures long { length (W.Words.row words.new) ≡ length (W.Words.row words.old) }
+    ensures touches { W.touched words.new ≤ W.touched words.old + 2 }
 {
     let next = word(words, d, LINK);
     write(words, HEADER, FIRST_DEAD, next);
@@ -66,10 +66,10 @@ fn pop_dead<W: Words>(words: &mut W, d: Ref)
 
 /// Lets two references go.
 pub(crate) fn release_both<W: Words>(words: &mut W, left: Ref, right: Ref)
-    requires { Making (row words.old) left.0 right.0 }
-    ensures dropped { Dropped (row words.old) (row words.new) left.0 right.0 }
-    ensures kept { Kept (row words.old) (row words.new) }
-    ensures touches { touched words.new ≤ touched words.old + 10 }
+    requires { Making (W.Words.row words.old) left.0 right.0 }
+    ensures dropped { Dropped (W.Words.row words.old) (W.Words.row words.new) left.0 right.0 }
+    ensures kept { Kept (W.Words.row words.old) (W.Words.row words.new) }
+    ensures touches { W.touched words.new ≤ W.touched words.old + 10 }
 {
     release(words, left);
     release(words, right);
@@ -77,10 +77,10 @@ pub(crate) fn release_both<W: Words>(words: &mut W, left: Ref, right: Ref)
 
 /// Makes a node of the first dead cell `d`, and lets the children go that it still had.
 fn reuse<W: Words>(words: &mut W, d: Ref, left: Ref, right: Ref, data: Data)
-    requires { Reusing (row words.old) d.0 left.0 right.0 }
-    ensures made { Made (row words.old) (row words.new) d.0 left.0 right.0 «data» }
-    ensures kept { Kept (row words.old) (row words.new) }
-    ensures touches { touched words.new ≤ touched words.old + 30 }
+    requires { Reusing (W.Words.row words.old) d.0 left.0 right.0 }
+    ensures made { Made (W.Words.row words.old) (W.Words.row words.new) d.0 left.0 right.0 «data» }
+    ensures kept { Kept (W.Words.row words.old) (W.Words.row words.new) }
+    ensures touches { W.touched words.new ≤ W.touched words.old + 30 }
 {
     pop_dead(words, d);
     let old = children_of(words, d);
@@ -90,21 +90,21 @@ fn reuse<W: Words>(words: &mut W, d: Ref, left: Ref, right: Ref, data: Data)
 
 /// One more in the number of cells that were taken.
 fn raise_taken<W: Words>(words: &mut W, taken: u32)
-    requires within { 16 ≤ length (row words.old) }
+    requires within { 16 ≤ length (W.Words.row words.old) }
     requires few { taken < 268435456 }
-    ensures same { row words.new ≡ put (row words.old) 0 0 (taken + 1) }
-    ensures touches { touched words.new ≤ touched words.old + 1 }
+    ensures same { W.Words.row words.new ≡ put (W.Words.row words.old) 0 0 (taken + 1) }
+    ensures touches { W.touched words.new ≤ W.touched words.old + 1 }
 {
     write(words, HEADER, TAKEN, taken + 1);
 }
 
 /// Makes a node of a cell that was never taken, where there is room for one.
 fn extend<W: Words>(words: &mut W, left: Ref, right: Ref, data: Data) -> Option<Ref>
-    requires making { Making (row words.old) left.0 right.0 }
-    requires none_dead { at (row words.old) 0 1 ≡ 0 }
-    ensures made { MatchOption result (Refused (row words.old) (row words.new)) (λ d. Made (row words.old) (row words.new) d.0 left.0 right.0 «data») }
-    ensures kept { Kept (row words.old) (row words.new) }
-    ensures touches { touched words.new ≤ touched words.old + 18 }
+    requires making { Making (W.Words.row words.old) left.0 right.0 }
+    requires none_dead { at (W.Words.row words.old) 0 1 ≡ 0 }
+    ensures made { MatchOption result (Refused (W.Words.row words.old) (W.Words.row words.new)) (λ d. Made (W.Words.row words.old) (W.Words.row words.new) d.0 left.0 right.0 «data») }
+    ensures kept { Kept (W.Words.row words.old) (W.Words.row words.new) }
+    ensures touches { W.touched words.new ≤ W.touched words.old + 18 }
 {
     let taken = word(words, HEADER, TAKEN);
     if taken < MOST_CELLS && 16 * taken as usize + 16 <= words.count() {
@@ -118,10 +118,10 @@ fn extend<W: Words>(words: &mut W, left: Ref, right: Ref, data: Data) -> Option<
 
 /// A new node with these children, which take the caller's references over, or none, and nothing changed, where no cell is dead and there is no room.
 pub fn alloc<W: Words>(words: &mut W, left: Ref, right: Ref, data: Data) -> Option<Ref>
-    requires { Making (row words.old) left.0 right.0 }
-    ensures made { MatchOption result (Refused (row words.old) (row words.new)) (λ d. Made (row words.old) (row words.new) d.0 left.0 right.0 «data») }
-    ensures kept { Kept (row words.old) (row words.new) }
-    ensures touches { touched words.new ≤ touched words.old + 31 }
+    requires { Making (W.Words.row words.old) left.0 right.0 }
+    ensures made { MatchOption result (Refused (W.Words.row words.old) (W.Words.row words.new)) (λ d. Made (W.Words.row words.old) (W.Words.row words.new) d.0 left.0 right.0 «data») }
+    ensures kept { Kept (W.Words.row words.old) (W.Words.row words.new) }
+    ensures touches { W.touched words.new ≤ W.touched words.old + 31 }
 {
     let first = word(words, HEADER, FIRST_DEAD);
     if first != 0 {
@@ -134,10 +134,10 @@ pub fn alloc<W: Words>(words: &mut W, left: Ref, right: Ref, data: Data) -> Opti
 
 /// A new node with these children, or none, and both let go, where there is no room.
 pub fn make<W: Words>(words: &mut W, left: Ref, right: Ref, data: Data) -> Option<Ref>
-    requires { Making (row words.old) left.0 right.0 }
-    ensures made { MatchOption result (GaveUp (row words.old) (row words.new) left.0 right.0) (λ d. Made (row words.old) (row words.new) d.0 left.0 right.0 «data») }
-    ensures kept { Kept (row words.old) (row words.new) }
-    ensures touches { touched words.new ≤ touched words.old + 41 }
+    requires { Making (W.Words.row words.old) left.0 right.0 }
+    ensures made { MatchOption result (GaveUp (W.Words.row words.old) (W.Words.row words.new) left.0 right.0) (λ d. Made (W.Words.row words.old) (W.Words.row words.new) d.0 left.0 right.0 «data») }
+    ensures kept { Kept (W.Words.row words.old) (W.Words.row words.new) }
+    ensures touches { W.touched words.new ≤ W.touched words.old + 41 }
 {
     match alloc(words, left, right, data) {
         Some(d) => Some(d),
@@ -150,10 +150,10 @@ pub fn make<W: Words>(words: &mut W, left: Ref, right: Ref, data: Data) -> Optio
 
 /// Lets the node `p` go, for its children and its data.
 pub fn open<W: Words>(words: &mut W, p: Ref) -> Node
-    requires { Opening (row words.old) p.0 }
-    ensures opened { Opened (row words.old) (row words.new) p.0 result.left.0 result.right.0 result.«data» }
-    ensures kept { Kept (row words.old) (row words.new) }
-    ensures touches { touched words.new ≤ touched words.old + 24 }
+    requires { Opening (W.Words.row words.old) p.0 }
+    ensures opened { Opened (W.Words.row words.old) (W.Words.row words.new) p.0 result.left.0 result.right.0 result.«data» }
+    ensures kept { Kept (W.Words.row words.old) (W.Words.row words.new) }
+    ensures touches { W.touched words.new ≤ W.touched words.old + 24 }
 {
     let old = children_of(words, p);
     let data = load(words, p);

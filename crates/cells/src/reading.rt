@@ -9,61 +9,61 @@ use words::Words;
 
 /// The left child of cell `p`.
 pub(crate) fn left_of<W: Words>(words: &mut W, p: Ref) -> Ref
-    requires within { 16 * p.0 + 16 ≤ length (row words.old) }
-    ensures value { result.0 ≡ at (row words.old) p.0 1 }
-    ensures same { row words.new ≡ row words.old }
-    ensures touches { touched words.new ≤ touched words.old + 1 }
+    requires within { 16 * p.0 + 16 ≤ length (W.Words.row words.old) }
+    ensures value { result.0 ≡ at (W.Words.row words.old) p.0 1 }
+    ensures same { W.Words.row words.new ≡ W.Words.row words.old }
+    ensures touches { W.touched words.new ≤ W.touched words.old + 1 }
 {
     Ref(word(words, p, LEFT))
 }
 
 /// The right child of cell `p`.
 pub(crate) fn right_of<W: Words>(words: &mut W, p: Ref) -> Ref
-    requires within { 16 * p.0 + 16 ≤ length (row words.old) }
-    ensures value { result.0 ≡ at (row words.old) p.0 2 }
-    ensures same { row words.new ≡ row words.old }
-    ensures touches { touched words.new ≤ touched words.old + 1 }
+    requires within { 16 * p.0 + 16 ≤ length (W.Words.row words.old) }
+    ensures value { result.0 ≡ at (W.Words.row words.old) p.0 2 }
+    ensures same { W.Words.row words.new ≡ W.Words.row words.old }
+    ensures touches { W.touched words.new ≤ W.touched words.old + 1 }
 {
     Ref(word(words, p, RIGHT))
 }
 
 /// The left child of the node `p`.
 pub fn left<W: Words>(words: &mut W, p: Ref) -> Ref
-    requires { Reading (row words.old) p.0 }
-    ensures lent { LeftRead (row words.old) p.0 result.0 }
-    ensures same { row words.new ≡ row words.old }
-    ensures touches { touched words.new ≤ touched words.old + 1 }
+    requires { Reading (W.Words.row words.old) p.0 }
+    ensures lent { LeftRead (W.Words.row words.old) p.0 result.0 }
+    ensures same { W.Words.row words.new ≡ W.Words.row words.old }
+    ensures touches { W.touched words.new ≤ W.touched words.old + 1 }
 {
     left_of(words, p)
 }
 
 /// The right child of the node `p`.
 pub fn right<W: Words>(words: &mut W, p: Ref) -> Ref
-    requires { Reading (row words.old) p.0 }
-    ensures lent { RightRead (row words.old) p.0 result.0 }
-    ensures same { row words.new ≡ row words.old }
-    ensures touches { touched words.new ≤ touched words.old + 1 }
+    requires { Reading (W.Words.row words.old) p.0 }
+    ensures lent { RightRead (W.Words.row words.old) p.0 result.0 }
+    ensures same { W.Words.row words.new ≡ W.Words.row words.old }
+    ensures touches { W.touched words.new ≤ W.touched words.old + 1 }
 {
     right_of(words, p)
 }
 
 /// Data word `k` of the node `p`.
 pub fn data_word<W: Words>(words: &mut W, p: Ref, k: usize) -> u32
-    requires node { Reading (row words.old) p.0 }
+    requires node { Reading (W.Words.row words.old) p.0 }
     requires word { k < 13 }
-    ensures value { WordRead (row words.old) p.0 k result }
-    ensures same { row words.new ≡ row words.old }
-    ensures touches { touched words.new ≤ touched words.old + 1 }
+    ensures value { WordRead (W.Words.row words.old) p.0 k result }
+    ensures same { W.Words.row words.new ≡ W.Words.row words.old }
+    ensures touches { W.touched words.new ≤ W.touched words.old + 1 }
 {
     load_word(words, p, k)
 }
 
 /// All data words of the node `p`.
 pub fn data_words<W: Words>(words: &mut W, p: Ref) -> Data
-    requires { Reading (row words.old) p.0 }
-    ensures value { WordsRead (row words.old) p.0 result }
-    ensures same { row words.new ≡ row words.old }
-    ensures touches { touched words.new ≤ touched words.old + 13 }
+    requires { Reading (W.Words.row words.old) p.0 }
+    ensures value { WordsRead (W.Words.row words.old) p.0 result }
+    ensures same { W.Words.row words.new ≡ W.Words.row words.old }
+    ensures touches { W.touched words.new ≤ W.touched words.old + 13 }
 {
     load(words, p)
 }
