@@ -15,10 +15,10 @@ pub struct Leaf {
 
 /// The leaf `p`.
 pub fn read_leaf<W: Words>(words: &mut W, p: Ref) -> Leaf
-    requires { LendsLeaf (row words.old) p.0 }
-    ensures value { (x : LendsLeaf (row words.old) p.0) → LeafIs result x.xs }
-    ensures same { row words.new ≡ row words.old }
-    ensures touches { touched words.new ≤ touched words.old + 13 }
+    requires { LendsLeaf (W.Words.row words.old) p.0 }
+    ensures value { (x : LendsLeaf (W.Words.row words.old) p.0) → LeafIs result x.xs }
+    ensures same { W.Words.row words.new ≡ W.Words.row words.old }
+    ensures touches { W.touched words.new ≤ W.touched words.old + 13 }
 {
     let data = data_words(words, p);
     Leaf {

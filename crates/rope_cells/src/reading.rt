@@ -39,20 +39,20 @@ pub struct Summary {
 
 /// The first data word.
 pub fn tag_of<W: Words>(words: &mut W, p: Ref) -> u32
-    requires { LendsSome (row words.old) p.0 }
-    ensures value { (x : LendsSome (row words.old) p.0) → result ≡ first_word x.lends.rope }
-    ensures same { row words.new ≡ row words.old }
-    ensures touches { touched words.new ≤ touched words.old + 1 }
+    requires { LendsSome (W.Words.row words.old) p.0 }
+    ensures value { (x : LendsSome (W.Words.row words.old) p.0) → result ≡ first_word x.lends.rope }
+    ensures same { W.Words.row words.new ≡ W.Words.row words.old }
+    ensures touches { W.touched words.new ≤ W.touched words.old + 1 }
 {
     data_word(words, p, 0)
 }
 
 /// How high the rope of `p` is, and whether it is a small leaf.
 pub fn shape_of<W: Words>(words: &mut W, p: Ref) -> Shape
-    requires { LendsSome (row words.old) p.0 }
-    ensures value { (x : LendsSome (row words.old) p.0) → ShapeIs x.lends.rope result }
-    ensures same { row words.new ≡ row words.old }
-    ensures touches { touched words.new ≤ touched words.old + 1 }
+    requires { LendsSome (W.Words.row words.old) p.0 }
+    ensures value { (x : LendsSome (W.Words.row words.old) p.0) → ShapeIs x.lends.rope result }
+    ensures same { W.Words.row words.new ≡ W.Words.row words.old }
+    ensures touches { W.touched words.new ≤ W.touched words.old + 1 }
 {
     let tag = tag_of(words, p);
     if tag % 64 == NODE {
@@ -70,12 +70,12 @@ pub fn shape_of<W: Words>(words: &mut W, p: Ref) -> Shape
 
 /// The shapes of two ropes.
 pub fn shapes_of<W: Words>(words: &mut W, p: Ref, q: Ref) -> Shapes
-    requires first { LendsSome (row words.old) p.0 }
-    requires second { LendsSome (row words.old) q.0 }
-    ensures first { (x : LendsSome (row words.old) p.0) → ShapeIs x.lends.rope result.first }
-    ensures second { (x : LendsSome (row words.old) q.0) → ShapeIs x.lends.rope result.second }
-    ensures same { row words.new ≡ row words.old }
-    ensures touches { touched words.new ≤ touched words.old + 2 }
+    requires first { LendsSome (W.Words.row words.old) p.0 }
+    requires second { LendsSome (W.Words.row words.old) q.0 }
+    ensures first { (x : LendsSome (W.Words.row words.old) p.0) → ShapeIs x.lends.rope result.first }
+    ensures second { (x : LendsSome (W.Words.row words.old) q.0) → ShapeIs x.lends.rope result.second }
+    ensures same { W.Words.row words.new ≡ W.Words.row words.old }
+    ensures touches { W.touched words.new ≤ W.touched words.old + 2 }
 {
     let first = shape_of(words, p);
     let second = shape_of(words, q);
@@ -84,10 +84,10 @@ pub fn shapes_of<W: Words>(words: &mut W, p: Ref, q: Ref) -> Shapes
 
 /// The sums of the node `p`.
 fn node_sums<W: Words>(words: &mut W, p: Ref) -> Sums
-    requires { LendsNode (row words.old) p.0 }
-    ensures value { (x : LendsNode (row words.old) p.0) → result ≡ sums_of (bytes x.lends.rope) }
-    ensures same { row words.new ≡ row words.old }
-    ensures touches { touched words.new ≤ touched words.old + 2 }
+    requires { LendsNode (W.Words.row words.old) p.0 }
+    ensures value { (x : LendsNode (W.Words.row words.old) p.0) → result ≡ sums_of (bytes x.lends.rope) }
+    ensures same { W.Words.row words.new ≡ W.Words.row words.old }
+    ensures touches { W.touched words.new ≤ W.touched words.old + 2 }
 {
     let mut sums = [0; 6];
     for k in 0..USED {
@@ -98,10 +98,10 @@ fn node_sums<W: Words>(words: &mut W, p: Ref) -> Sums
 
 /// The height and the sums of the rope of `p`.
 pub fn summary_of<W: Words>(words: &mut W, p: Ref) -> Summary
-    requires { LendsSome (row words.old) p.0 }
-    ensures value { (x : LendsSome (row words.old) p.0) → SummaryIs x.lends.rope result }
-    ensures same { row words.new ≡ row words.old }
-    ensures touches { touched words.new ≤ touched words.old + 3 }
+    requires { LendsSome (W.Words.row words.old) p.0 }
+    ensures value { (x : LendsSome (W.Words.row words.old) p.0) → SummaryIs x.lends.rope result }
+    ensures same { W.Words.row words.new ≡ W.Words.row words.old }
+    ensures touches { W.touched words.new ≤ W.touched words.old + 3 }
 {
     let tag = tag_of(words, p);
     if tag % 64 == NODE {
@@ -118,22 +118,22 @@ pub fn summary_of<W: Words>(words: &mut W, p: Ref) -> Summary
 
 /// The sum at place `k` of the left child of the node `p`.
 pub fn left_sum<W: Words>(words: &mut W, p: Ref, k: usize) -> u32
-    requires node { LendsChildren (row words.old) p.0 }
+    requires node { LendsChildren (W.Words.row words.old) p.0 }
     requires place { k < 6 }
-    ensures value { (x : LendsChildren (row words.old) p.0) → result ≡ sum_at (bytes x.left) k }
-    ensures same { row words.new ≡ row words.old }
-    ensures touches { touched words.new ≤ touched words.old + 1 }
+    ensures value { (x : LendsChildren (W.Words.row words.old) p.0) → result ≡ sum_at (bytes x.left) k }
+    ensures same { W.Words.row words.new ≡ W.Words.row words.old }
+    ensures touches { W.touched words.new ≤ W.touched words.old + 1 }
 {
     data_word(words, p, 7 + k)
 }
 
 /// The sum at place `k` of the rope of `p`.
 pub fn total<W: Words>(words: &mut W, p: Ref, k: usize) -> u32
-    requires rope { Lends (row words.old) p.0 }
+    requires rope { Lends (W.Words.row words.old) p.0 }
     requires place { k < 6 }
-    ensures value { (x : Lends (row words.old) p.0) → result ≡ sum_at (bytes x.rope) k }
-    ensures same { row words.new ≡ row words.old }
-    ensures touches { touched words.new ≤ touched words.old + 2 }
+    ensures value { (x : Lends (W.Words.row words.old) p.0) → result ≡ sum_at (bytes x.rope) k }
+    ensures same { W.Words.row words.new ≡ W.Words.row words.old }
+    ensures touches { W.touched words.new ≤ W.touched words.old + 2 }
 {
     if p.is_none() {
         return 0;
@@ -148,20 +148,20 @@ pub fn total<W: Words>(words: &mut W, p: Ref, k: usize) -> u32
 
 /// How many bytes the rope of `p` has.
 pub fn len<W: Words>(words: &mut W, p: Ref) -> u32
-    requires { Lends (row words.old) p.0 }
-    ensures value { (x : Lends (row words.old) p.0) → result ≡ size x.rope }
-    ensures same { row words.new ≡ row words.old }
-    ensures touches { touched words.new ≤ touched words.old + 2 }
+    requires { Lends (W.Words.row words.old) p.0 }
+    ensures value { (x : Lends (W.Words.row words.old) p.0) → result ≡ size x.rope }
+    ensures same { W.Words.row words.new ≡ W.Words.row words.old }
+    ensures touches { W.touched words.new ≤ W.touched words.old + 2 }
 {
     total(words, p, 0)
 }
 
 /// The sum of all bytes of the rope of `p`.
 pub fn sum<S: Sum, W: Words>(words: &mut W, p: Ref) -> u32
-    requires { Lends (row words.old) p.0 }
-    ensures value { (x : Lends (row words.old) p.0) → result ≡ S.Sum.sums (bytes x.rope) }
-    ensures same { row words.new ≡ row words.old }
-    ensures touches { touched words.new ≤ touched words.old + 2 }
+    requires { Lends (W.Words.row words.old) p.0 }
+    ensures value { (x : Lends (W.Words.row words.old) p.0) → result ≡ S.Sum.sums (bytes x.rope) }
+    ensures same { W.Words.row words.new ≡ W.Words.row words.old }
+    ensures touches { W.touched words.new ≤ W.touched words.old + 2 }
 {
     total(words, p, S::index())
 }
