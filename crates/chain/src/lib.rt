@@ -24,9 +24,9 @@ fn numbered(k: u32) -> Data
 
 /// As many cells, one behind another, as there is room for, at most `most`.
 pub fn build<W: Words>(words: &mut W, most: u32) -> CellList
-    requires { Have (row words.old) [] }
-    ensures built { Built (row words.new) result.first.0 result.cells most }
-    ensures long { length (row words.new) ≡ length (row words.old) }
+    requires { Have (W.Words.row words.old) [] }
+    ensures built { Built (W.Words.row words.new) result.first.0 result.cells most }
+    ensures long { length (W.Words.row words.new) ≡ length (W.Words.row words.old) }
 {
     let mut first = NONE;
     for k in 0..most {
@@ -47,8 +47,8 @@ pub struct TakenBack {
 
 /// Begins a heap, makes a list, lets it go at once, and makes another.
 pub fn take_back<W: Words>(words: &mut W, most: u32) -> TakenBack
-    requires { 128 ≤ length (row words.old) }
-    ensures { Have (row words.new) [] }
+    requires { 128 ≤ length (W.Words.row words.old) }
+    ensures { Have (W.Words.row words.new) [] }
 {
     new(words);
     let first = build(words, most);
@@ -63,7 +63,7 @@ pub fn take_back<W: Words>(words: &mut W, most: u32) -> TakenBack
 
 /// A number that most likely differs where a word of the row does.
 fn checksum<W: Words>(words: &mut W) -> u32
-    ensures { row words.new ≡ row words.old }
+    ensures { W.Words.row words.new ≡ W.Words.row words.old }
 {
     let mut sum = 0u32;
     for i in 0..words.count() {
@@ -74,9 +74,9 @@ fn checksum<W: Words>(words: &mut W) -> u32
 
 /// Two cells, one below the other, with the numbers `n` and `n` + 1, the first below, or none where there is no room.
 pub fn pair<W: Words>(words: &mut W, n: u32) -> Option<Ref>
-    requires have { Have (row words.old) [] }
+    requires have { Have (W.Words.row words.old) [] }
     requires fits { n < 1000 }
-    ensures { Have (row words.new) (opt result (paired n) []) }
+    ensures { Have (W.Words.row words.new) (opt result (paired n) []) }
 {
     let below = make(words, NONE, NONE, numbered(n))?;
     make(words, below, NONE, numbered(n + 1))
@@ -84,9 +84,9 @@ pub fn pair<W: Words>(words: &mut W, n: u32) -> Option<Ref>
 
 /// The number of the cell below `p`.
 pub fn number_below<W: Words>(words: &mut W, p: Ref) -> u32
-    requires { Pair (row words.old) p.0 }
-    ensures value { (n : ℕ) → Have (row words.old) (item p.0 (paired n) ∷ []) → result ≡ n }
-    ensures same { row words.new ≡ row words.old }
+    requires { Pair (W.Words.row words.old) p.0 }
+    ensures value { (n : ℕ) → Have (W.Words.row words.old) (item p.0 (paired n) ∷ []) → result ≡ n }
+    ensures same { W.Words.row words.new ≡ W.Words.row words.old }
 {
     let below = left(words, p);
     data_word(words, below, 0)
@@ -94,8 +94,8 @@ pub fn number_below<W: Words>(words: &mut W, p: Ref) -> u32
 
 /// Stores the pair `p` as the first reference of the state, and gives the number of its upper cell.
 pub fn store<W: Words>(words: &mut W, p: Ref) -> u32
-    requires { Pair (row words.old) p.0 }
-    ensures { Stored (row words.old) (row words.new) p.0 result }
+    requires { Pair (W.Words.row words.old) p.0 }
+    ensures { Stored (W.Words.row words.old) (W.Words.row words.new) p.0 result }
 {
     share(words, p);
     set_root(words, 0, p);
@@ -107,7 +107,7 @@ pub fn store<W: Words>(words: &mut W, p: Ref) -> u32
 
 /// Whether another cell is refused, and the row then as before.
 pub fn refuses<W: Words>(words: &mut W) -> bool
-    requires { (items : List Item) × Have (row words.old) items }
+    requires { (items : List Item) × Have (W.Words.row words.old) items }
 {
     let before = checksum(words);
     let refused = alloc(words, NONE, NONE, numbered(0)).is_none();
