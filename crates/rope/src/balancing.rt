@@ -13,9 +13,9 @@ use words::Words;
 
 /// Three parts as two nodes in one: `b` is parted between `a` and `c`.
 fn rotate_double<W: Words>(words: &mut W, side: Side, a: Ref, b: Ref, c: Ref) -> Option<Ref>
-    requires { Three Peak (row words.old) a.0 b.0 c.0 8 }
-    ensures joins { Joins3 Peak (double_on side) 122 (row words.old) (row words.new) a.0 b.0 c.0 8 result (touched words.old) (touched words.new) }
-    ensures kept { Kept (row words.old) (row words.new) }
+    requires { Three Peak (W.Words.row words.old) a.0 b.0 c.0 8 }
+    ensures joins { Joins3 Peak (double_on side) 122 (W.Words.row words.old) (W.Words.row words.new) a.0 b.0 c.0 8 result (W.touched words.old) (W.touched words.new) }
+    ensures kept { Kept (W.Words.row words.old) (W.Words.row words.new) }
 {
     let n = halve(words, side, b);
     let x = node_on(words, side, a, n.first);
@@ -25,9 +25,9 @@ fn rotate_double<W: Words>(words: &mut W, side: Side, a: Ref, b: Ref, c: Ref) ->
 
 /// A part and the children of another that is too high beside it, in balance.
 fn rotate_parts<W: Words>(words: &mut W, side: Side, a: Ref, b: Ref, c: Ref) -> Option<Ref>
-    requires { Three Tilted (row words.old) a.0 b.0 c.0 8 }
-    ensures joins { Joins3 Tilted (rotate_parts side) 124 (row words.old) (row words.new) a.0 b.0 c.0 8 result (touched words.old) (touched words.new) }
-    ensures kept { Kept (row words.old) (row words.new) }
+    requires { Three Tilted (W.Words.row words.old) a.0 b.0 c.0 8 }
+    ensures joins { Joins3 Tilted (rotate_parts side) 124 (W.Words.row words.old) (W.Words.row words.new) a.0 b.0 c.0 8 result (W.touched words.old) (W.touched words.new) }
+    ensures kept { Kept (W.Words.row words.old) (W.Words.row words.new) }
 {
     let s = shapes_of(words, b, c);
     if s.first.height <= s.second.height {
@@ -40,9 +40,9 @@ fn rotate_parts<W: Words>(words: &mut W, side: Side, a: Ref, b: Ref, c: Ref) -> 
 
 /// A part and one that is too high beside it, rotated.
 fn rotate<W: Words>(words: &mut W, side: Side, a: Ref, b: Ref) -> Option<Ref>
-    requires { Two Leaning (row words.old) a.0 b.0 16 }
-    ensures joins { Joins Leaning (rotate_on side) (λ _ _. 135) 1 (row words.old) (row words.new) a.0 b.0 16 result (touched words.old) (touched words.new) }
-    ensures kept { Kept (row words.old) (row words.new) }
+    requires { Two Leaning (W.Words.row words.old) a.0 b.0 16 }
+    ensures joins { Joins Leaning (rotate_on side) (λ _ _. 135) 1 (W.Words.row words.old) (W.Words.row words.new) a.0 b.0 16 result (W.touched words.old) (W.touched words.new) }
+    ensures kept { Kept (W.Words.row words.old) (W.Words.row words.new) }
 {
     let n = halve(words, side, b);
     rotate_parts(words, side, a, n.first, n.second)
@@ -50,9 +50,9 @@ fn rotate<W: Words>(words: &mut W, side: Side, a: Ref, b: Ref) -> Option<Ref>
 
 /// A node of two parts, of which the second may be too high, or what it is rotated to.
 pub fn balance<W: Words>(words: &mut W, side: Side, a: Ref, b: Ref) -> Option<Ref>
-    requires { Two Near (row words.old) a.0 b.0 16 }
-    ensures joins { Joins Near (balance_on side) (λ u v. 39 + 98 * rotations_on side u v) 1 (row words.old) (row words.new) a.0 b.0 16 result (touched words.old) (touched words.new) }
-    ensures kept { Kept (row words.old) (row words.new) }
+    requires { Two Near (W.Words.row words.old) a.0 b.0 16 }
+    ensures joins { Joins Near (balance_on side) (λ u v. 39 + 98 * rotations_on side u v) 1 (W.Words.row words.old) (W.Words.row words.new) a.0 b.0 16 result (W.touched words.old) (W.touched words.new) }
+    ensures kept { Kept (W.Words.row words.old) (W.Words.row words.new) }
 {
     let s = shapes_of(words, a, b);
     if s.first.height + 1 < s.second.height {

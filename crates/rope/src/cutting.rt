@@ -20,9 +20,9 @@ pub struct Cut {
 
 /// Both parts, where both are there; else the one that is there is let go.
 fn pair_up<W: Words>(words: &mut W, front: Option<Ref>, back: Option<Ref>) -> Option<Cut>
-    requires { Pairing (row words.old) front back }
-    ensures pairs { Pairs (row words.old) (row words.new) front back result (touched words.old) (touched words.new) }
-    ensures kept { Kept (row words.old) (row words.new) }
+    requires { Pairing (W.Words.row words.old) front back }
+    ensures pairs { Pairs (W.Words.row words.old) (W.Words.row words.new) front back result (W.touched words.old) (W.touched words.new) }
+    ensures kept { Kept (W.Words.row words.old) (W.Words.row words.new) }
 {
     match (front, back) {
         (Some(front), Some(back)) => Some(Cut { front, back }),
@@ -40,9 +40,9 @@ fn pair_up<W: Words>(words: &mut W, front: Option<Ref>, back: Option<Ref>) -> Op
 
 /// The rope `right` behind the back part.
 fn with_back<W: Words>(words: &mut W, front: Ref, back: Ref, right: Ref) -> Option<Cut>
-    requires { Beside (row words.old) back.0 right.0 front.0 }
-    ensures joins { JoinsBack (row words.old) (row words.new) back.0 right.0 front.0 result (touched words.old) (touched words.new) }
-    ensures kept { Kept (row words.old) (row words.new) }
+    requires { Beside (W.Words.row words.old) back.0 right.0 front.0 }
+    ensures joins { JoinsBack (W.Words.row words.old) (W.Words.row words.new) back.0 right.0 front.0 result (W.touched words.old) (W.touched words.new) }
+    ensures kept { Kept (W.Words.row words.old) (W.Words.row words.new) }
 {
     match concat(words, back, right) {
         Some(back) => Some(Cut { front, back }),
@@ -55,9 +55,9 @@ fn with_back<W: Words>(words: &mut W, front: Ref, back: Ref, right: Ref) -> Opti
 
 /// The rope `left` before the front part.
 fn with_front<W: Words>(words: &mut W, left: Ref, front: Ref, back: Ref) -> Option<Cut>
-    requires { Beside (row words.old) left.0 front.0 back.0 }
-    ensures joins { JoinsFront (row words.old) (row words.new) left.0 front.0 back.0 result (touched words.old) (touched words.new) }
-    ensures kept { Kept (row words.old) (row words.new) }
+    requires { Beside (W.Words.row words.old) left.0 front.0 back.0 }
+    ensures joins { JoinsFront (W.Words.row words.old) (W.Words.row words.new) left.0 front.0 back.0 result (W.touched words.old) (W.touched words.new) }
+    ensures kept { Kept (W.Words.row words.old) (W.Words.row words.new) }
 {
     match concat(words, left, front) {
         Some(front) => Some(Cut { front, back }),
@@ -70,9 +70,9 @@ fn with_front<W: Words>(words: &mut W, left: Ref, front: Ref, back: Ref) -> Opti
 
 /// A leaf cut inside.
 fn split_leaf<W: Words>(words: &mut W, t: Ref, at: usize) -> Option<Cut>
-    requires { One (LeafCut at) (row words.old) t.0 160 }
-    ensures cuts { Cuts (LeafCut at) (λ _. 100) at (row words.old) (row words.new) t.0 result (touched words.old) (touched words.new) }
-    ensures kept { Kept (row words.old) (row words.new) }
+    requires { One (LeafCut at) (W.Words.row words.old) t.0 160 }
+    ensures cuts { Cuts (LeafCut at) (λ _. 100) at (W.Words.row words.old) (W.Words.row words.new) t.0 result (W.touched words.old) (W.touched words.new) }
+    ensures kept { Kept (W.Words.row words.old) (W.Words.row words.new) }
 {
     let all = read_leaf(words, t);
     release(words, t);
@@ -83,9 +83,9 @@ fn split_leaf<W: Words>(words: &mut W, t: Ref, at: usize) -> Option<Cut>
 
 /// A rope of `size` bytes cut at place `at`.
 fn split_sized<W: Words>(words: &mut W, t: Ref, size: u32, at: u32) -> Option<Cut>
-    requires { One (Sized size) (row words.old) t.0 160 }
-    ensures cuts { Cuts (Sized size) (cut_price at) at (row words.old) (row words.new) t.0 result (touched words.old) (touched words.new) }
-    ensures kept { Kept (row words.old) (row words.new) }
+    requires { One (Sized size) (W.Words.row words.old) t.0 160 }
+    ensures cuts { Cuts (Sized size) (cut_price at) at (W.Words.row words.old) (W.Words.row words.new) t.0 result (W.touched words.old) (W.touched words.new) }
+    ensures kept { Kept (W.Words.row words.old) (W.Words.row words.new) }
 {
     if at == 0 {
         return Some(Cut {
@@ -125,9 +125,9 @@ fn split_sized<W: Words>(words: &mut W, t: Ref, size: u32, at: u32) -> Option<Cu
 
 /// The rope cut at place `at`.
 pub fn split<W: Words>(words: &mut W, t: Ref, at: u32) -> Option<Cut>
-    requires { One Short (row words.old) t.0 160 }
-    ensures cuts { Splits at (row words.old) (row words.new) t.0 result (touched words.old) (touched words.new) }
-    ensures kept { Kept (row words.old) (row words.new) }
+    requires { One Short (W.Words.row words.old) t.0 160 }
+    ensures cuts { Splits at (W.Words.row words.old) (W.Words.row words.new) t.0 result (W.touched words.old) (W.touched words.new) }
+    ensures kept { Kept (W.Words.row words.old) (W.Words.row words.new) }
 {
     let size = len(words, t);
     split_sized(words, t, size, at)

@@ -17,9 +17,9 @@ use words::Words;
 
 /// Two leaves as one, or as two, the second on this side.
 fn merge_on<W: Words>(words: &mut W, side: Side, first: Ref, second: Ref) -> Option<Ref>
-    requires { Two TwoLeaves (row words.old) first.0 second.0 2 }
-    ensures joins { Joins TwoLeaves (merge_on side) (λ _ _. 135) 0 (row words.old) (row words.new) first.0 second.0 2 result (touched words.old) (touched words.new) }
-    ensures kept { Kept (row words.old) (row words.new) }
+    requires { Two TwoLeaves (W.Words.row words.old) first.0 second.0 2 }
+    ensures joins { Joins TwoLeaves (merge_on side) (λ _ _. 135) 0 (W.Words.row words.old) (W.Words.row words.new) first.0 second.0 2 result (W.touched words.old) (W.touched words.new) }
+    ensures kept { Kept (W.Words.row words.old) (W.Words.row words.new) }
 {
     match side {
         Side::Right => merge(words, first, second),
@@ -37,9 +37,9 @@ fn fits_beside(a: Shape, b: Shape) -> bool
 
 /// The guest, which is not higher, onto this side of the host, whose height is at most `fuel`.
 fn attach<W: Words>(words: &mut W, side: Side, host: Ref, guest: Ref, fuel: u32) -> Option<Ref>
-    requires { Two (Onto fuel) (row words.old) host.0 guest.0 (fuel + 32) }
-    ensures joins { Joins (Onto fuel) (attached side) (attach_price side) 1 (row words.old) (row words.new) host.0 guest.0 (fuel + 32) result (touched words.old) (touched words.new) }
-    ensures kept { Kept (row words.old) (row words.new) }
+    requires { Two (Onto fuel) (W.Words.row words.old) host.0 guest.0 (fuel + 32) }
+    ensures joins { Joins (Onto fuel) (attached side) (attach_price side) 1 (W.Words.row words.old) (W.Words.row words.new) host.0 guest.0 (fuel + 32) result (W.touched words.old) (W.touched words.new) }
+    ensures kept { Kept (W.Words.row words.old) (W.Words.row words.new) }
 {
     let s = shapes_of(words, host, guest);
     if s.first.height == 1 {
@@ -60,9 +60,9 @@ fn attach<W: Words>(words: &mut W, side: Side, host: Ref, guest: Ref, fuel: u32)
 
 /// The bytes of one rope and then those of the other, as a rope.
 pub fn concat<W: Words>(words: &mut W, left: Ref, right: Ref) -> Option<Ref>
-    requires { Two Any (row words.old) left.0 right.0 128 }
-    ensures joins { Joins Any concatenated concat_price 1 (row words.old) (row words.new) left.0 right.0 128 result (touched words.old) (touched words.new) }
-    ensures kept { Kept (row words.old) (row words.new) }
+    requires { Two Any (W.Words.row words.old) left.0 right.0 128 }
+    ensures joins { Joins Any concatenated concat_price 1 (W.Words.row words.old) (W.Words.row words.new) left.0 right.0 128 result (W.touched words.old) (W.touched words.new) }
+    ensures kept { Kept (W.Words.row words.old) (W.Words.row words.new) }
 {
     if left.is_none() {
         return Some(right);

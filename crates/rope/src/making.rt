@@ -14,9 +14,9 @@ use words::Words;
 
 /// A cell with these children and data; where there is no room, the children are let go.
 fn place<W: Words>(words: &mut W, left: Ref, right: Ref, data: Data) -> Option<Ref>
-    requires { Making (row words.old) left.0 right.0 }
-    ensures placed { Placed (row words.old) (row words.new) left.0 right.0 «data» result (touched words.old) (touched words.new) }
-    ensures kept { Kept (row words.old) (row words.new) }
+    requires { Making (W.Words.row words.old) left.0 right.0 }
+    ensures placed { Placed (W.Words.row words.old) (W.Words.row words.new) left.0 right.0 «data» result (W.touched words.old) (W.touched words.new) }
+    ensures kept { Kept (W.Words.row words.old) (W.Words.row words.new) }
 {
     match alloc(words, left, right, data) {
         Some(d) => Some(d),
@@ -30,10 +30,10 @@ fn place<W: Words>(words: &mut W, left: Ref, right: Ref, data: Data) -> Option<R
 
 /// The data words of a node of two ropes.
 fn data_of<W: Words>(words: &mut W, left: Ref, right: Ref) -> Data
-    requires { Two Fit (row words.old) left.0 right.0 0 }
-    ensures value { (x : Two Fit (row words.old) left.0 right.0 0) → result ≡ data-of-node x.u x.v }
-    ensures same { row words.new ≡ row words.old }
-    ensures touches { touched words.new ≤ touched words.old + 6 }
+    requires { Two Fit (W.Words.row words.old) left.0 right.0 0 }
+    ensures value { (x : Two Fit (W.Words.row words.old) left.0 right.0 0) → result ≡ data-of-node x.u x.v }
+    ensures same { W.Words.row words.new ≡ W.Words.row words.old }
+    ensures touches { W.touched words.new ≤ W.touched words.old + 6 }
 {
     let a = summary_of(words, left);
     let b = summary_of(words, right);
@@ -42,9 +42,9 @@ fn data_of<W: Words>(words: &mut W, left: Ref, right: Ref) -> Data
 
 /// A node of two ropes.
 pub fn node<W: Words>(words: &mut W, left: Ref, right: Ref) -> Option<Ref>
-    requires { Two Fit (row words.old) left.0 right.0 0 }
-    ensures joins { Joins Fit node_of (λ _ _. 37) 0 (row words.old) (row words.new) left.0 right.0 0 result (touched words.old) (touched words.new) }
-    ensures kept { Kept (row words.old) (row words.new) }
+    requires { Two Fit (W.Words.row words.old) left.0 right.0 0 }
+    ensures joins { Joins Fit node_of (λ _ _. 37) 0 (W.Words.row words.old) (W.Words.row words.new) left.0 right.0 0 result (W.touched words.old) (W.touched words.new) }
+    ensures kept { Kept (W.Words.row words.old) (W.Words.row words.new) }
 {
     let data = data_of(words, left, right);
     place(words, left, right, data)
@@ -52,9 +52,9 @@ pub fn node<W: Words>(words: &mut W, left: Ref, right: Ref) -> Option<Ref>
 
 /// A node of two ropes, of which the second is on this side.
 pub fn node_on<W: Words>(words: &mut W, side: Side, first: Ref, second: Ref) -> Option<Ref>
-    requires { Two Fit (row words.old) first.0 second.0 0 }
-    ensures joins { Joins Fit (node_on side) (λ _ _. 37) 0 (row words.old) (row words.new) first.0 second.0 0 result (touched words.old) (touched words.new) }
-    ensures kept { Kept (row words.old) (row words.new) }
+    requires { Two Fit (W.Words.row words.old) first.0 second.0 0 }
+    ensures joins { Joins Fit (node_on side) (λ _ _. 37) 0 (W.Words.row words.old) (W.Words.row words.new) first.0 second.0 0 result (W.touched words.old) (W.touched words.new) }
+    ensures kept { Kept (W.Words.row words.old) (W.Words.row words.new) }
 {
     match side {
         Side::Right => node(words, first, second),
@@ -69,9 +69,9 @@ pub fn both_on<W: Words>(
     first: Option<Ref>,
     second: Option<Ref>,
 ) -> Option<Ref>
-    requires { Couple (row words.old) first second }
-    ensures couples { Couples (node_on side) (row words.old) (row words.new) first second result (touched words.old) (touched words.new) }
-    ensures kept { Kept (row words.old) (row words.new) }
+    requires { Couple (W.Words.row words.old) first second }
+    ensures couples { Couples (node_on side) (W.Words.row words.old) (W.Words.row words.new) first second result (W.touched words.old) (W.touched words.new) }
+    ensures kept { Kept (W.Words.row words.old) (W.Words.row words.new) }
 {
     match (first, second) {
         (Some(a), Some(b)) => node_on(words, side, a, b),
@@ -89,11 +89,11 @@ pub fn both_on<W: Words>(
 
 /// A leaf of these bytes.
 pub fn leaf<W: Words>(words: &mut W, bytes: &[u8]) -> Option<Ref>
-    requires heap { Free (row words.old) 0 }
+    requires heap { Free (W.Words.row words.old) 0 }
     requires fits { length bytes.now ≤ 48 }
-    ensures leafed { Leafed (row words.old) (row words.new) bytes.now result (touched words.old) (touched words.new) }
+    ensures leafed { Leafed (W.Words.row words.old) (W.Words.row words.new) bytes.now result (W.touched words.old) (W.touched words.new) }
     ensures octets { Octets bytes.now }
-    ensures kept { Kept (row words.old) (row words.new) }
+    ensures kept { Kept (W.Words.row words.old) (W.Words.row words.new) }
 {
     place(words, NONE, NONE, pack(bytes))
 }

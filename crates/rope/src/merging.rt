@@ -24,11 +24,11 @@ struct Both {
 
 /// One leaf of these bytes, or two where they are too many for one.
 fn spread<W: Words>(words: &mut W, bytes: &[u8]) -> Option<Ref>
-    requires heap { Free (row words.old) 2 }
+    requires heap { Free (W.Words.row words.old) 2 }
     requires few { length bytes.now ≤ 96 }
     requires some { 1 ≤ length bytes.now }
-    ensures spreads { Spreads (row words.old) (row words.new) bytes.now result (touched words.old) (touched words.new) }
-    ensures kept { Kept (row words.old) (row words.new) }
+    ensures spreads { Spreads (W.Words.row words.old) (W.Words.row words.new) bytes.now result (W.touched words.old) (W.touched words.new) }
+    ensures kept { Kept (W.Words.row words.old) (W.Words.row words.new) }
 {
     if bytes.len() <= LEAF_MAX {
         return leaf(words, bytes);
@@ -41,10 +41,10 @@ fn spread<W: Words>(words: &mut W, bytes: &[u8]) -> Option<Ref>
 
 /// Lets two references go.
 fn release_both<W: Words>(words: &mut W, left: Ref, right: Ref)
-    requires { Making (row words.old) left.0 right.0 }
-    ensures dropped { Dropped (row words.old) (row words.new) left.0 right.0 }
-    ensures kept { Kept (row words.old) (row words.new) }
-    ensures touches { touched words.new ≤ touched words.old + 10 }
+    requires { Making (W.Words.row words.old) left.0 right.0 }
+    ensures dropped { Dropped (W.Words.row words.old) (W.Words.row words.new) left.0 right.0 }
+    ensures kept { Kept (W.Words.row words.old) (W.Words.row words.new) }
+    ensures touches { W.touched words.new ≤ W.touched words.old + 10 }
 {
     release(words, left);
     release(words, right);
@@ -60,10 +60,10 @@ fn stay(a: usize, b: usize) -> bool
 
 /// The bytes of two leaves that are lent, one behind the other.
 fn read_both<W: Words>(words: &mut W, left: Ref, right: Ref) -> Both
-    requires { Two TwoLeaves (row words.old) left.0 right.0 2 }
-    ensures value { (x : Two TwoLeaves (row words.old) left.0 right.0 2) → BothAre result x.u x.v }
-    ensures same { row words.new ≡ row words.old }
-    ensures touches { touched words.new ≤ touched words.old + 26 }
+    requires { Two TwoLeaves (W.Words.row words.old) left.0 right.0 2 }
+    ensures value { (x : Two TwoLeaves (W.Words.row words.old) left.0 right.0 2) → BothAre result x.u x.v }
+    ensures same { W.Words.row words.new ≡ W.Words.row words.old }
+    ensures touches { W.touched words.new ≤ W.touched words.old + 26 }
 {
     let a = read_leaf(words, left);
     let b = read_leaf(words, right);
@@ -76,9 +76,9 @@ fn read_both<W: Words>(words: &mut W, left: Ref, right: Ref) -> Both
 
 /// Two leaves as one, or as two.
 pub fn merge<W: Words>(words: &mut W, left: Ref, right: Ref) -> Option<Ref>
-    requires { Two TwoLeaves (row words.old) left.0 right.0 2 }
-    ensures joins { Joins TwoLeaves merged (λ _ _. 135) 0 (row words.old) (row words.new) left.0 right.0 2 result (touched words.old) (touched words.new) }
-    ensures kept { Kept (row words.old) (row words.new) }
+    requires { Two TwoLeaves (W.Words.row words.old) left.0 right.0 2 }
+    ensures joins { Joins TwoLeaves merged (λ _ _. 135) 0 (W.Words.row words.old) (W.Words.row words.new) left.0 right.0 2 result (W.touched words.old) (W.touched words.new) }
+    ensures kept { Kept (W.Words.row words.old) (W.Words.row words.new) }
 {
     let both = read_both(words, left, right);
     if stay(both.left, both.right) {

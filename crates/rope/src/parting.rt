@@ -23,10 +23,10 @@ pub struct Halves {
 
 /// Lets the node `p` go for its children.
 fn part<W: Words>(words: &mut W, p: Ref) -> Children
-    requires { Opening (row words.old) p.0 }
-    ensures parted { Parted (row words.old) (row words.new) p.0 result.left.0 result.right.0 }
-    ensures kept { Kept (row words.old) (row words.new) }
-    ensures touches { touched words.new ≤ touched words.old + 11 }
+    requires { Opening (W.Words.row words.old) p.0 }
+    ensures parted { Parted (W.Words.row words.old) (W.Words.row words.new) p.0 result.left.0 result.right.0 }
+    ensures kept { Kept (W.Words.row words.old) (W.Words.row words.new) }
+    ensures touches { W.touched words.new ≤ W.touched words.old + 11 }
 {
     let l = left(words, p);
     let r = right(words, p);
@@ -38,10 +38,10 @@ fn part<W: Words>(words: &mut W, p: Ref) -> Children
 
 /// Lets the node `p` go for its children.
 pub fn halve<W: Words>(words: &mut W, side: Side, p: Ref) -> Halves
-    requires { Opening (row words.old) p.0 }
-    ensures halved { Halved side (row words.old) (row words.new) p.0 result.first.0 result.second.0 }
-    ensures kept { Kept (row words.old) (row words.new) }
-    ensures touches { touched words.new ≤ touched words.old + 11 }
+    requires { Opening (W.Words.row words.old) p.0 }
+    ensures halved { Halved side (W.Words.row words.old) (W.Words.row words.new) p.0 result.first.0 result.second.0 }
+    ensures kept { Kept (W.Words.row words.old) (W.Words.row words.new) }
+    ensures touches { W.touched words.new ≤ W.touched words.old + 11 }
 {
     let both = part(words, p);
     match side {

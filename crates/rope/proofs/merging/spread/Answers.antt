@@ -12,7 +12,7 @@ returns-then-bytes-le-LEAF_MAX g c =
 
 pub leaf-x-requires : goal.leaf-x-requires
 leaf-x-requires g c =
-    record { heap = record { rest = c.requires.heap.rest; have = c.requires.heap.have; few = omega (arith, c.requires.heap.few) }; fits = omega (arith, c.requires.few, c.split_at.ensures.front-len) }
+    record { heap = record { rest = c.requires.heap.rest; have = c.requires.heap.have; few = omega (arith, c.requires.heap.few) }; fits = omega (arith, c.requires.few, c.split_at.ensures.front_len) }
 
 pub leaf-y-requires : goal.leaf-y-requires
 leaf-y-requires g c =
