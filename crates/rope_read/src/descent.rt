@@ -30,11 +30,11 @@ fn reached_left(n: u32, by: u32) -> bool
 
 /// The leaf of a part up to whose end the first sum is `n` or more, and before which it is less.
 pub fn descend<W: Words>(words: &mut W, part: Part, n: u32, route: Route, fuel: u32) -> Part
-    requires rope { Under (row words.old) part.rope.0 fuel }
-    requires leads { Leads (row words.old) part n route }
-    ensures value { LeafReached (row words.old) part n route result }
-    ensures same { row words.new ≡ row words.old }
-    ensures touches { touched words.new ≤ touched words.old + 4 * fuel }
+    requires rope { Under (W.Words.row words.old) part.rope.0 fuel }
+    requires leads { Leads (W.Words.row words.old) part n route }
+    ensures value { LeafReached (W.Words.row words.old) part n route result }
+    ensures same { W.Words.row words.new ≡ W.Words.row words.old }
+    ensures touches { W.touched words.new ≤ W.touched words.old + 4 * fuel }
 {
     let p = part.rope;
     if shape_of(words, p).height == 1 {

@@ -55,12 +55,12 @@ fn first_in_part<W: Words>(
     byte: u8,
     chunk: &mut [u8],
 ) -> Option<u32>
-    requires rope { Lends (row words.old) p.0 }
-    requires inside { from + length chunk.old ≤ length (text (row words.old) p.0) }
+    requires rope { Lends (W.Words.row words.old) p.0 }
+    requires inside { from + length chunk.old ≤ length (text (W.Words.row words.old) p.0) }
     requires few { length chunk.old ≤ 64 }
-    ensures value { MatchOption result (Absent (text (row words.old) p.0) from (from + length chunk.old) byte) (λ k. First (text (row words.old) p.0) from (from + length chunk.old) byte k) }
-    ensures same { row words.new ≡ row words.old }
-    ensures touches { touched words.new ≤ touched words.old + (170 + length chunk.old) }
+    ensures value { MatchOption result (Absent (text (W.Words.row words.old) p.0) from (from + length chunk.old) byte) (λ k. First (text (W.Words.row words.old) p.0) from (from + length chunk.old) byte k) }
+    ensures same { W.Words.row words.new ≡ W.Words.row words.old }
+    ensures touches { W.touched words.new ≤ W.touched words.old + (170 + length chunk.old) }
 {
     read(words, p, from, chunk);
     match first_in(chunk, byte) {
@@ -77,12 +77,12 @@ fn last_in_part<W: Words>(
     byte: u8,
     chunk: &mut [u8],
 ) -> Option<u32>
-    requires rope { Lends (row words.old) p.0 }
-    requires inside { from + length chunk.old ≤ length (text (row words.old) p.0) }
+    requires rope { Lends (W.Words.row words.old) p.0 }
+    requires inside { from + length chunk.old ≤ length (text (W.Words.row words.old) p.0) }
     requires few { length chunk.old ≤ 64 }
-    ensures value { MatchOption result (Absent (text (row words.old) p.0) from (from + length chunk.old) byte) (λ k. Last (text (row words.old) p.0) from (from + length chunk.old) byte k) }
-    ensures same { row words.new ≡ row words.old }
-    ensures touches { touched words.new ≤ touched words.old + (170 + length chunk.old) }
+    ensures value { MatchOption result (Absent (text (W.Words.row words.old) p.0) from (from + length chunk.old) byte) (λ k. Last (text (W.Words.row words.old) p.0) from (from + length chunk.old) byte k) }
+    ensures same { W.Words.row words.new ≡ W.Words.row words.old }
+    ensures touches { W.touched words.new ≤ W.touched words.old + (170 + length chunk.old) }
 {
     read(words, p, from, chunk);
     match last_in(chunk, byte) {
@@ -93,11 +93,11 @@ fn last_in_part<W: Words>(
 
 /// The place of the first byte `byte` from place `from` up to place `to`.
 pub fn find<W: Words>(words: &mut W, p: Ref, from: u32, to: u32, byte: u8) -> Option<u32>
-    requires rope { Lends (row words.old) p.0 }
-    requires inside { to ≤ length (text (row words.old) p.0) }
-    ensures value { MatchOption result (Absent (text (row words.old) p.0) from to byte) (λ k. First (text (row words.old) p.0) from to byte k) }
-    ensures same { row words.new ≡ row words.old }
-    ensures touches { MatchOption result (touched words.new ≤ touched words.old + 4 * (to - from) + 234) (λ k. touched words.new ≤ touched words.old + 4 * (k - from) + 234) }
+    requires rope { Lends (W.Words.row words.old) p.0 }
+    requires inside { to ≤ length (text (W.Words.row words.old) p.0) }
+    ensures value { MatchOption result (Absent (text (W.Words.row words.old) p.0) from to byte) (λ k. First (text (W.Words.row words.old) p.0) from to byte k) }
+    ensures same { W.Words.row words.new ≡ W.Words.row words.old }
+    ensures touches { MatchOption result (W.touched words.new ≤ W.touched words.old + 4 * (to - from) + 234) (λ k. W.touched words.new ≤ W.touched words.old + 4 * (k - from) + 234) }
 {
     let mut chunk = [0; 64];
     let mut at = from;
@@ -114,11 +114,11 @@ pub fn find<W: Words>(words: &mut W, p: Ref, from: u32, to: u32, byte: u8) -> Op
 
 /// The place of the last byte `byte` from place `from` up to place `to`.
 pub fn find_back<W: Words>(words: &mut W, p: Ref, from: u32, to: u32, byte: u8) -> Option<u32>
-    requires rope { Lends (row words.old) p.0 }
-    requires inside { to ≤ length (text (row words.old) p.0) }
-    ensures value { MatchOption result (Absent (text (row words.old) p.0) from to byte) (λ k. Last (text (row words.old) p.0) from to byte k) }
-    ensures same { row words.new ≡ row words.old }
-    ensures touches { MatchOption result (touched words.new ≤ touched words.old + 4 * (to - from) + 234) (λ k. touched words.new ≤ touched words.old + 4 * (to - k) + 234) }
+    requires rope { Lends (W.Words.row words.old) p.0 }
+    requires inside { to ≤ length (text (W.Words.row words.old) p.0) }
+    ensures value { MatchOption result (Absent (text (W.Words.row words.old) p.0) from to byte) (λ k. Last (text (W.Words.row words.old) p.0) from to byte k) }
+    ensures same { W.Words.row words.new ≡ W.Words.row words.old }
+    ensures touches { MatchOption result (W.touched words.new ≤ W.touched words.old + 4 * (to - from) + 234) (λ k. W.touched words.new ≤ W.touched words.old + 4 * (to - k) + 234) }
 {
     let mut chunk = [0; 64];
     let mut end = to;

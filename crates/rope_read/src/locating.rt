@@ -22,11 +22,11 @@ pub struct Spot {
 
 /// The leaf of the rope `p` up to whose end the first sum is `n` or more, and before which it is less.
 pub fn locate<W: Words>(words: &mut W, p: Ref, n: u32, route: Route) -> Spot
-    requires rope { LendsSome (row words.old) p.0 }
-    requires reaches { Reaches (text (row words.old) p.0) n route }
-    ensures value { Located (text (row words.old) p.0) n route result }
-    ensures same { row words.new ≡ row words.old }
-    ensures touches { touched words.new ≤ touched words.old + 153 }
+    requires rope { LendsSome (W.Words.row words.old) p.0 }
+    requires reaches { Reaches (text (W.Words.row words.old) p.0) n route }
+    ensures value { Located (text (W.Words.row words.old) p.0) n route result }
+    ensures same { W.Words.row words.new ≡ W.Words.row words.old }
+    ensures touches { W.touched words.new ≤ W.touched words.old + 153 }
 {
     let whole = Part {
         rope: p,

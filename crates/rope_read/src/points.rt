@@ -38,11 +38,11 @@ fn sum_at<S: Sum>(part: &[u8], k: usize) -> u32
 
 /// The byte at place `at` of the rope `p`.
 pub fn byte_at<W: Words>(words: &mut W, p: Ref, at: u32) -> u8
-    requires rope { Lends (row words.old) p.0 }
-    requires inside { at < length (text (row words.old) p.0) }
-    ensures value { result ≡ slice_index (text (row words.old) p.0) at }
-    ensures same { row words.new ≡ row words.old }
-    ensures touches { touched words.new ≤ touched words.old + 160 }
+    requires rope { Lends (W.Words.row words.old) p.0 }
+    requires inside { at < length (text (W.Words.row words.old) p.0) }
+    ensures value { result ≡ slice_index (text (W.Words.row words.old) p.0) at }
+    ensures same { W.Words.row words.new ≡ W.Words.row words.old }
+    ensures touches { W.touched words.new ≤ W.touched words.old + 160 }
 {
     let by = <rope_cells::Bytes as Sum>::index();
     let spot = locate(words, p, at + 1, Route { by, of: by });
@@ -51,10 +51,10 @@ pub fn byte_at<W: Words>(words: &mut W, p: Ref, at: u32) -> u8
 
 /// The sum of the bytes of the rope `p` before place `at`.
 pub fn prefix<S: Sum, W: Words>(words: &mut W, p: Ref, at: u32) -> u32
-    requires rope { Lends (row words.old) p.0 }
-    ensures value { result ≡ S.Sum.sums (take at (text (row words.old) p.0)) }
-    ensures same { row words.new ≡ row words.old }
-    ensures touches { touched words.new ≤ touched words.old + 160 }
+    requires rope { Lends (W.Words.row words.old) p.0 }
+    ensures value { result ≡ S.Sum.sums (take at (text (W.Words.row words.old) p.0)) }
+    ensures same { W.Words.row words.new ≡ W.Words.row words.old }
+    ensures touches { W.touched words.new ≤ W.touched words.old + 160 }
 {
     if p.is_none() {
         return 0;
@@ -83,11 +83,11 @@ fn reach_in<S: Sum>(part: &[u8], n: u32) -> u32
 
 /// The least place of the rope `p` before which the bytes sum to `n`.
 pub fn seek<S: Sum, W: Words>(words: &mut W, p: Ref, n: u32) -> u32
-    requires rope { Lends (row words.old) p.0 }
-    requires reached { n ≤ S.Sum.sums (text (row words.old) p.0) }
-    ensures value { Reached S.Sum.sums (text (row words.old) p.0) n result }
-    ensures same { row words.new ≡ row words.old }
-    ensures touches { touched words.new ≤ touched words.old + 160 }
+    requires rope { Lends (W.Words.row words.old) p.0 }
+    requires reached { n ≤ S.Sum.sums (text (W.Words.row words.old) p.0) }
+    ensures value { Reached S.Sum.sums (text (W.Words.row words.old) p.0) n result }
+    ensures same { W.Words.row words.new ≡ W.Words.row words.old }
+    ensures touches { W.touched words.new ≤ W.touched words.old + 160 }
 {
     if p.is_none() {
         return 0;

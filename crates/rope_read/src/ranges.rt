@@ -21,10 +21,10 @@ const TWO_LEAVES: u32 = 48;
 
 /// Whether a rope of `size` bytes is a leaf. Its cell is read only where the number of its bytes doesn't tell.
 fn is_leaf<W: Words>(words: &mut W, p: Ref, size: u32) -> bool
-    requires rope { Sized (row words.old) p.0 size }
-    ensures value { (x : Sized (row words.old) p.0 size) → result ≡ (height x.lends.rope == 1) }
-    ensures same { row words.new ≡ row words.old }
-    ensures touches { touched words.new ≤ touched words.old + tag_price size }
+    requires rope { Sized (W.Words.row words.old) p.0 size }
+    ensures value { (x : Sized (W.Words.row words.old) p.0 size) → result ≡ (height x.lends.rope == 1) }
+    ensures same { W.Words.row words.new ≡ W.Words.row words.old }
+    ensures touches { W.touched words.new ≤ W.touched words.old + tag_price size }
 {
     if size != TWO_LEAVES {
         return size < TWO_LEAVES;
@@ -43,11 +43,11 @@ fn copy_part(leaf: &Leaf, from: usize, into: &mut [u8])
 
 /// Reads the bytes of the leaf `p` from place `from` on.
 fn read_in_leaf<W: Words>(words: &mut W, p: Ref, from: usize, into: &mut [u8])
-    requires rope { LendsLeaf (row words.old) p.0 }
-    requires inside { from + length into.old ≤ length (text (row words.old) p.0) }
-    ensures value { into.new ≡ take (length into.old) (drop from (text (row words.old) p.0)) }
-    ensures same { row words.new ≡ row words.old }
-    ensures touches { touched words.new ≤ touched words.old + 13 }
+    requires rope { LendsLeaf (W.Words.row words.old) p.0 }
+    requires inside { from + length into.old ≤ length (text (W.Words.row words.old) p.0) }
+    ensures value { into.new ≡ take (length into.old) (drop from (text (W.Words.row words.old) p.0)) }
+    ensures same { W.Words.row words.new ≡ W.Words.row words.old }
+    ensures touches { W.touched words.new ≤ W.touched words.old + 13 }
 {
     let leaf = read_leaf(words, p);
     copy_part(&leaf, from, into);
@@ -55,11 +55,11 @@ fn read_in_leaf<W: Words>(words: &mut W, p: Ref, from: usize, into: &mut [u8])
 
 /// Reads the bytes of a rope of `size` bytes from place `from` on. The rope has at most `levels` levels.
 fn read_part<W: Words>(words: &mut W, p: Ref, size: u32, levels: u32, from: u32, into: &mut [u8])
-    requires rope { Filled (row words.old) p.0 size levels }
+    requires rope { Filled (W.Words.row words.old) p.0 size levels }
     requires inside { from + length into.old ≤ size }
-    ensures value { into.new ≡ take (length into.old) (drop from (text (row words.old) p.0)) }
-    ensures same { row words.new ≡ row words.old }
-    ensures touches { touched words.new + 4 ≤ touched words.old + price levels size from (length into.old) }
+    ensures value { into.new ≡ take (length into.old) (drop from (text (W.Words.row words.old) p.0)) }
+    ensures same { W.Words.row words.new ≡ W.Words.row words.old }
+    ensures touches { W.touched words.new + 4 ≤ W.touched words.old + price levels size from (length into.old) }
 {
     if is_leaf(words, p, size) {
         read_in_leaf(words, p, from as usize, into);
@@ -86,11 +86,11 @@ fn read_part<W: Words>(words: &mut W, p: Ref, size: u32, levels: u32, from: u32,
 
 /// Reads the bytes of the rope `p` from place `from` on.
 pub fn read<W: Words>(words: &mut W, p: Ref, from: u32, into: &mut [u8])
-    requires rope { Lends (row words.old) p.0 }
-    requires inside { from + length into.old ≤ length (text (row words.old) p.0) }
-    ensures value { into.new ≡ take (length into.old) (drop from (text (row words.old) p.0)) }
-    ensures same { row words.new ≡ row words.old }
-    ensures touches { touched words.new ≤ touched words.old + (170 + length into.old) }
+    requires rope { Lends (W.Words.row words.old) p.0 }
+    requires inside { from + length into.old ≤ length (text (W.Words.row words.old) p.0) }
+    ensures value { into.new ≡ take (length into.old) (drop from (text (W.Words.row words.old) p.0)) }
+    ensures same { W.Words.row words.new ≡ W.Words.row words.old }
+    ensures touches { W.touched words.new ≤ W.touched words.old + (170 + length into.old) }
 {
     if into.is_empty() {
         return;

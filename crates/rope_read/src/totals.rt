@@ -9,21 +9,21 @@ use words::Words;
 
 /// How many bytes the rope `p` has.
 pub fn len<W: Words>(words: &mut W, p: Ref) -> u32
-    requires rope { Lends (row words.old) p.0 }
-    ensures value { result ≡ length (text (row words.old) p.0) }
+    requires rope { Lends (W.Words.row words.old) p.0 }
+    ensures value { result ≡ length (text (W.Words.row words.old) p.0) }
     ensures few { result < 536870912 }
-    ensures same { row words.new ≡ row words.old }
-    ensures touches { touched words.new ≤ touched words.old + 2 }
+    ensures same { W.Words.row words.new ≡ W.Words.row words.old }
+    ensures touches { W.touched words.new ≤ W.touched words.old + 2 }
 {
     rope_cells::len(words, p)
 }
 
 /// The sum of all bytes of the rope `p`.
 pub fn sum<S: Sum, W: Words>(words: &mut W, p: Ref) -> u32
-    requires rope { Lends (row words.old) p.0 }
-    ensures value { result ≡ S.Sum.sums (text (row words.old) p.0) }
-    ensures same { row words.new ≡ row words.old }
-    ensures touches { touched words.new ≤ touched words.old + 2 }
+    requires rope { Lends (W.Words.row words.old) p.0 }
+    ensures value { result ≡ S.Sum.sums (text (W.Words.row words.old) p.0) }
+    ensures same { W.Words.row words.new ≡ W.Words.row words.old }
+    ensures touches { W.touched words.new ≤ W.touched words.old + 2 }
 {
     rope_cells::sum::<S, W>(words, p)
 }
