@@ -27,10 +27,10 @@ fn left_part(n: usize) -> usize
 
 /// A rope of these bytes.
 pub fn from_bytes<W: Words>(words: &mut W, bytes: &[u8]) -> Option<Ref>
-    requires heap { Free (row words.old) (length bytes.now) }
+    requires heap { Free (W.Words.row words.old) (length bytes.now) }
     requires few { length bytes.now < 536870912 }
-    ensures builds { Builds (row words.old) (row words.new) bytes.now result (touched words.old) (touched words.new) }
-    ensures kept { Kept (row words.old) (row words.new) }
+    ensures builds { Builds (W.Words.row words.old) (W.Words.row words.new) bytes.now result (W.touched words.old) (W.touched words.new) }
+    ensures kept { Kept (W.Words.row words.old) (W.Words.row words.new) }
 {
     if bytes.is_empty() {
         return Some(NONE);

@@ -30,9 +30,9 @@ fn digits_of(n: u32) -> Digits
 
 /// The rope `before`, and `t` once behind it where it is `odd`. `t` is still held.
 fn add_odd<W: Words>(words: &mut W, before: Ref, t: Ref, odd: bool) -> Option<Ref>
-    requires { Two Any (row words.old) before.0 t.0 200 }
-    ensures adds { Adds odd (row words.old) (row words.new) before.0 t.0 result (touched words.old) (touched words.new) }
-    ensures kept { Kept (row words.old) (row words.new) }
+    requires { Two Any (W.Words.row words.old) before.0 t.0 200 }
+    ensures adds { Adds odd (W.Words.row words.old) (W.Words.row words.new) before.0 t.0 result (W.touched words.old) (W.touched words.new) }
+    ensures kept { Kept (W.Words.row words.old) (W.Words.row words.new) }
 {
     if !odd {
         return Some(before);
@@ -43,9 +43,9 @@ fn add_odd<W: Words>(words: &mut W, before: Ref, t: Ref, odd: bool) -> Option<Re
 
 /// The rope twice.
 fn double<W: Words>(words: &mut W, t: Ref) -> Option<Ref>
-    requires { One Twice (row words.old) t.0 160 }
-    ensures doubles { Doubles (row words.old) (row words.new) t.0 result (touched words.old) (touched words.new) }
-    ensures kept { Kept (row words.old) (row words.new) }
+    requires { One Twice (W.Words.row words.old) t.0 160 }
+    ensures doubles { Doubles (W.Words.row words.old) (W.Words.row words.new) t.0 result (W.touched words.old) (W.touched words.new) }
+    ensures kept { Kept (W.Words.row words.old) (W.Words.row words.new) }
 {
     let again = another(words, t);
     concat(words, t, again)
@@ -53,9 +53,9 @@ fn double<W: Words>(words: &mut W, t: Ref) -> Option<Ref>
 
 /// The rope `before`, and `t` behind it `n` times.
 fn repeat_onto<W: Words>(words: &mut W, before: Ref, t: Ref, n: u32) -> Option<Ref>
-    requires { Two (Copied n) (row words.old) before.0 t.0 200 }
-    ensures repeats { Repeats n (row words.old) (row words.new) before.0 t.0 result (touched words.old) (touched words.new) }
-    ensures kept { Kept (row words.old) (row words.new) }
+    requires { Two (Copied n) (W.Words.row words.old) before.0 t.0 200 }
+    ensures repeats { Repeats n (W.Words.row words.old) (W.Words.row words.new) before.0 t.0 result (W.touched words.old) (W.touched words.new) }
+    ensures kept { Kept (W.Words.row words.old) (W.Words.row words.new) }
 {
     if n == 0 {
         release(words, t);
@@ -78,10 +78,10 @@ fn repeat_onto<W: Words>(words: &mut W, before: Ref, t: Ref, n: u32) -> Option<R
 
 /// The rope `n` times.
 pub fn repeat<W: Words>(words: &mut W, t: Ref, n: u32) -> Option<Ref>
-    requires { One (Times n) (row words.old) t.0 200 }
-    ensures repeated { Repeated n (row words.old) (row words.new) t.0 result (touched words.old) (touched words.new) }
-    ensures kept { Kept (row words.old) (row words.new) }
-    ensures quick { touched words.new ≤ touched words.old + 75000 }
+    requires { One (Times n) (W.Words.row words.old) t.0 200 }
+    ensures repeated { Repeated n (W.Words.row words.old) (W.Words.row words.new) t.0 result (W.touched words.old) (W.touched words.new) }
+    ensures kept { Kept (W.Words.row words.old) (W.Words.row words.new) }
+    ensures quick { W.touched words.new ≤ W.touched words.old + 75000 }
 {
     repeat_onto(words, NONE, t, n)
 }

@@ -11,9 +11,9 @@ use words::Words;
 
 /// The second rope behind the first, where that is there; else the second is let go.
 fn concat_onto<W: Words>(words: &mut W, first: Option<Ref>, second: Ref) -> Option<Ref>
-    requires { Following (row words.old) first second.0 }
-    ensures follows { Follows (row words.old) (row words.new) first second.0 result (touched words.old) (touched words.new) }
-    ensures kept { Kept (row words.old) (row words.new) }
+    requires { Following (W.Words.row words.old) first second.0 }
+    ensures follows { Follows (W.Words.row words.old) (W.Words.row words.new) first second.0 result (W.touched words.old) (W.touched words.new) }
+    ensures kept { Kept (W.Words.row words.old) (W.Words.row words.new) }
 {
     match first {
         Some(first) => concat(words, first, second),
@@ -26,10 +26,10 @@ fn concat_onto<W: Words>(words: &mut W, first: Option<Ref>, second: Ref) -> Opti
 
 /// The rope with the bytes from place `a` up to place `b` replaced by those of `new`.
 pub fn replace<W: Words>(words: &mut W, t: Ref, a: u32, b: u32, new: Ref) -> Option<Ref>
-    requires { Two Any (row words.old) t.0 new.0 200 }
-    ensures replaces { Replaces a b (row words.old) (row words.new) t.0 new.0 result (touched words.old) (touched words.new) }
-    ensures kept { Kept (row words.old) (row words.new) }
-    ensures quick { touched words.new ≤ touched words.old + 30000 }
+    requires { Two Any (W.Words.row words.old) t.0 new.0 200 }
+    ensures replaces { Replaces a b (W.Words.row words.old) (W.Words.row words.new) t.0 new.0 result (W.touched words.old) (W.touched words.new) }
+    ensures kept { Kept (W.Words.row words.old) (W.Words.row words.new) }
+    ensures quick { W.touched words.new ≤ W.touched words.old + 30000 }
 {
     let Some(cut) = split(words, t, b) else {
         release(words, new);

@@ -8,10 +8,10 @@ use words::Words;
 
 /// One more reference to what is lent.
 pub fn another<W: Words>(words: &mut W, t: Ref) -> Ref
-    requires { Sharing (row words.old) t.0 }
-    ensures another { Another (row words.old) (row words.new) t.0 result.0 }
-    ensures kept { Kept (row words.old) (row words.new) }
-    ensures touches { touched words.new ≤ touched words.old + 2 }
+    requires { Sharing (W.Words.row words.old) t.0 }
+    ensures another { Another (W.Words.row words.old) (W.Words.row words.new) t.0 result.0 }
+    ensures kept { Kept (W.Words.row words.old) (W.Words.row words.new) }
+    ensures touches { W.touched words.new ≤ W.touched words.old + 2 }
 {
     share(words, t);
     t

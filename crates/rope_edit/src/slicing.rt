@@ -18,11 +18,11 @@ pub enum Part {
 
 /// One part of a rope that was cut. The other is let go.
 fn choose<W: Words>(words: &mut W, cut: Cut, part: Part) -> Ref
-    requires { Holding (row words.old) (other part cut).0 }
+    requires { Holding (W.Words.row words.old) (other part cut).0 }
     ensures value { result ≡ chosen part cut }
-    ensures released { Released (row words.old) (row words.new) (other part cut).0 }
-    ensures kept { Kept (row words.old) (row words.new) }
-    ensures touches { touched words.new ≤ touched words.old + 5 }
+    ensures released { Released (W.Words.row words.old) (W.Words.row words.new) (other part cut).0 }
+    ensures kept { Kept (W.Words.row words.old) (W.Words.row words.new) }
+    ensures touches { W.touched words.new ≤ W.touched words.old + 5 }
 {
     match part {
         Part::Front => {
@@ -38,9 +38,9 @@ fn choose<W: Words>(words: &mut W, cut: Cut, part: Part) -> Ref
 
 /// The part of a rope before place `at`, or from it on. The other is let go.
 pub fn keep<W: Words>(words: &mut W, t: Ref, at: u32, part: Part) -> Option<Ref>
-    requires { One Short (row words.old) t.0 160 }
-    ensures keeps { Keeps part at (row words.old) (row words.new) t.0 result (touched words.old) (touched words.new) }
-    ensures kept { Kept (row words.old) (row words.new) }
+    requires { One Short (W.Words.row words.old) t.0 160 }
+    ensures keeps { Keeps part at (W.Words.row words.old) (W.Words.row words.new) t.0 result (W.touched words.old) (W.touched words.new) }
+    ensures kept { Kept (W.Words.row words.old) (W.Words.row words.new) }
 {
     let cut = split(words, t, at)?;
     Some(choose(words, cut, part))
@@ -48,10 +48,10 @@ pub fn keep<W: Words>(words: &mut W, t: Ref, at: u32, part: Part) -> Option<Ref>
 
 /// The bytes from place `a` up to place `b` of a rope that is lent.
 pub fn slice<W: Words>(words: &mut W, t: Ref, a: u32, b: u32) -> Option<Ref>
-    requires { Lend (row words.old) t.0 }
-    ensures slices { Slices a b (row words.old) (row words.new) t.0 result (touched words.old) (touched words.new) }
-    ensures kept { Kept (row words.old) (row words.new) }
-    ensures quick { touched words.new ≤ touched words.old + 25000 }
+    requires { Lend (W.Words.row words.old) t.0 }
+    ensures slices { Slices a b (W.Words.row words.old) (W.Words.row words.new) t.0 result (W.touched words.old) (W.touched words.new) }
+    ensures kept { Kept (W.Words.row words.old) (W.Words.row words.new) }
+    ensures quick { W.touched words.new ≤ W.touched words.old + 25000 }
 {
     let own = another(words, t);
     let front = keep(words, own, b, Part::Front)?;
