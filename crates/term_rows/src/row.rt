@@ -20,12 +20,12 @@ pub fn write_update<W: ByteWriter>(
 ) -> Position
     requires within { (update.from ≤ update.to) × ((update.from < length new.now) × (update.to ≤ length new.now)) }
     requires small { (row < 9999) × (length new.now ≤ 9999) }
-    requires roomy { length (written writer.old) + (16 + length new.now) ≤ (lent writer.old).capacity }
-    ensures says { written writer.new ≡ (written writer.old ++ step_bytes at.row at.column row update.from) ++ update_bytes new.now update.from update.to update.clear }
-    ensures long { length (written writer.new) ≤ length (written writer.old) + (16 + length new.now) }
+    requires roomy { length (W.written writer.old) + (16 + length new.now) ≤ (W.lent writer.old).capacity }
+    ensures says { W.written writer.new ≡ (W.written writer.old ++ step_bytes at.row at.column row update.from) ++ update_bytes new.now update.from update.to update.clear }
+    ensures long { length (W.written writer.new) ≤ length (W.written writer.old) + (16 + length new.now) }
     ensures at_row { result.row ≡ row }
     ensures at_column { result.column ≡ update.to }
-    ensures same { lent writer.new ≡ lent writer.old }
+    ensures same { W.lent writer.new ≡ W.lent writer.old }
 {
     let Update { from, to, clear } = update;
     move_cursor(

@@ -22,10 +22,10 @@ fn from_one(index: u16) -> u16
 /// `ESC [ row ; column H`. The terminal takes a number that is left out for 1.
 pub fn write_move<W: ByteWriter>(writer: &mut W, to: Position)
     requires small { (to.row < 9999) × (to.column < 9999) }
-    requires roomy { length (written writer.old) + 12 ≤ (lent writer.old).capacity }
-    ensures says { written writer.new ≡ written writer.old ++ move_bytes to.row to.column }
-    ensures long { length (written writer.new) ≤ length (written writer.old) + 12 }
-    ensures same { lent writer.new ≡ lent writer.old }
+    requires roomy { length (W.written writer.old) + 12 ≤ (W.lent writer.old).capacity }
+    ensures says { W.written writer.new ≡ W.written writer.old ++ move_bytes to.row to.column }
+    ensures long { length (W.written writer.new) ≤ length (W.written writer.old) + 12 }
+    ensures same { W.lent writer.new ≡ W.lent writer.old }
 {
     writer.write_byte(ESCAPE);
     writer.write_byte(b'[');
@@ -41,10 +41,10 @@ pub fn write_move<W: ByteWriter>(writer: &mut W, to: Position)
 
 /// `ESC [ K`.
 pub fn write_clear<W: ByteWriter>(writer: &mut W)
-    requires { length (written writer.old) + 3 ≤ (lent writer.old).capacity }
-    ensures says { written writer.new ≡ written writer.old ++ clear_bytes }
-    ensures long { length (written writer.new) ≡ length (written writer.old) + 3 }
-    ensures same { lent writer.new ≡ lent writer.old }
+    requires { length (W.written writer.old) + 3 ≤ (W.lent writer.old).capacity }
+    ensures says { W.written writer.new ≡ W.written writer.old ++ clear_bytes }
+    ensures long { length (W.written writer.new) ≡ length (W.written writer.old) + 3 }
+    ensures same { W.lent writer.new ≡ W.lent writer.old }
 {
     write_bytes(writer, b"\x1b[K");
 }
@@ -52,10 +52,10 @@ pub fn write_clear<W: ByteWriter>(writer: &mut W)
 /// A move from where the cursor is, unless it is there already.
 pub fn move_cursor<W: ByteWriter>(writer: &mut W, at: Position, to: Position)
     requires small { (to.row < 9999) × (to.column < 9999) }
-    requires roomy { length (written writer.old) + 12 ≤ (lent writer.old).capacity }
-    ensures says { written writer.new ≡ written writer.old ++ step_bytes at.row at.column to.row to.column }
-    ensures long { length (written writer.new) ≤ length (written writer.old) + 12 }
-    ensures same { lent writer.new ≡ lent writer.old }
+    requires roomy { length (W.written writer.old) + 12 ≤ (W.lent writer.old).capacity }
+    ensures says { W.written writer.new ≡ W.written writer.old ++ step_bytes at.row at.column to.row to.column }
+    ensures long { length (W.written writer.new) ≤ length (W.written writer.old) + 12 }
+    ensures same { W.lent writer.new ≡ W.lent writer.old }
 {
     if at.row != to.row || at.column != to.column {
         write_move(writer, to);

@@ -28,10 +28,10 @@ pub trait ByteWriter {
 }
 
 pub fn write_bytes<W: ByteWriter>(writer: &mut W, bytes: &[u8])
-    requires { length (written writer.old) + length bytes.now ≤ (lent writer.old).capacity }
-    ensures says { written writer.new ≡ written writer.old ++ bytes.now }
-    ensures long { length (written writer.new) ≡ length (written writer.old) + length bytes.now }
-    ensures same { lent writer.new ≡ lent writer.old }
+    requires { length (W.written writer.old) + length bytes.now ≤ (W.lent writer.old).capacity }
+    ensures says { W.written writer.new ≡ W.written writer.old ++ bytes.now }
+    ensures long { length (W.written writer.new) ≡ length (W.written writer.old) + length bytes.now }
+    ensures same { W.lent writer.new ≡ W.lent writer.old }
 {
     for b in bytes {
         writer.write_byte(*b);
@@ -47,10 +47,10 @@ fn last_digit(n: u16) -> u8
 
 /// A number of at most four digits, in decimal.
 pub fn write_number<W: ByteWriter>(writer: &mut W, n: u16)
-    requires { (n ≤ 9999) × (length (written writer.old) + 4 ≤ (lent writer.old).capacity) }
-    ensures says { written writer.new ≡ written writer.old ++ decimal n }
-    ensures long { length (written writer.new) ≤ length (written writer.old) + 4 }
-    ensures same { lent writer.new ≡ lent writer.old }
+    requires { (n ≤ 9999) × (length (W.written writer.old) + 4 ≤ (W.lent writer.old).capacity) }
+    ensures says { W.written writer.new ≡ W.written writer.old ++ decimal n }
+    ensures long { length (W.written writer.new) ≤ length (W.written writer.old) + 4 }
+    ensures same { W.lent writer.new ≡ W.lent writer.old }
 {
     let tens = n / 10;
     let hundreds = tens / 10;
