@@ -19,15 +19,15 @@ fn redraw_row<C: Change, W: ByteWriter>(
     old: &mut [u8],
     new: &mut [u8],
 ) -> Option<Position>
-    requires ready { ready change.old }
-    requires pictures { Redrawable (length old.old) (scene change.old) }
+    requires ready { C.ready change.old }
+    requires pictures { Redrawable (length old.old) (C.scene change.old) }
     requires buffers { length new.old ≡ length old.old }
-    requires within { row < length (scene change.old).before.rows }
-    ensures says { RowSays (written writer.old) (written writer.new) (lent writer.old).capacity (length old.old) row (scene change.old) at result }
-    ensures stays { scene change.new ≡ scene change.old }
-    ensures still_ready { ready change.new }
-    ensures touches { touched change.new ≤ touched change.old + 2 * (scene change.old).row_touches }
-    ensures same { lent writer.new ≡ lent writer.old }
+    requires within { row < length (C.scene change.old).before.rows }
+    ensures says { RowSays (W.written writer.old) (W.written writer.new) (W.lent writer.old).capacity (length old.old) row (C.scene change.old) at result }
+    ensures stays { C.scene change.new ≡ C.scene change.old }
+    ensures still_ready { C.ready change.new }
+    ensures touches { C.touched change.new ≤ C.touched change.old + 2 * (C.scene change.old).row_touches }
+    ensures same { W.lent writer.new ≡ W.lent writer.old }
 {
     if change.unchanged(row) {
         return Some(at);
@@ -53,15 +53,15 @@ fn redraw_upper<C: Change, W: ByteWriter>(
     old: &mut [u8],
     new: &mut [u8],
 ) -> Option<Position>
-    requires ready { ready change.old }
-    requires pictures { Redrawable (length old.old) (scene change.old) }
+    requires ready { C.ready change.old }
+    requires pictures { Redrawable (length old.old) (C.scene change.old) }
     requires buffers { length new.old ≡ length old.old }
-    requires within { last < length (scene change.old).before.rows }
-    ensures says { UpperSays (written writer.old) (written writer.new) (lent writer.old).capacity (length old.old) last cursor_row (scene change.old) start result }
-    ensures stays { scene change.new ≡ scene change.old }
-    ensures still_ready { ready change.new }
-    ensures touches { touched change.new + visited last cursor_row 0 * (2 * (scene change.old).row_touches) ≤ touched change.old + visited last cursor_row last * (2 * (scene change.old).row_touches) }
-    ensures same { lent writer.new ≡ lent writer.old }
+    requires within { last < length (C.scene change.old).before.rows }
+    ensures says { UpperSays (W.written writer.old) (W.written writer.new) (W.lent writer.old).capacity (length old.old) last cursor_row (C.scene change.old) start result }
+    ensures stays { C.scene change.new ≡ C.scene change.old }
+    ensures still_ready { C.ready change.new }
+    ensures touches { C.touched change.new + visited last cursor_row 0 * (2 * (C.scene change.old).row_touches) ≤ C.touched change.old + visited last cursor_row last * (2 * (C.scene change.old).row_touches) }
+    ensures same { W.lent writer.new ≡ W.lent writer.old }
 {
     let mut at = start;
     for row in 0..last {
@@ -81,15 +81,15 @@ fn redraw_last<C: Change, W: ByteWriter>(
     old: &mut [u8],
     new: &mut [u8],
 ) -> Option<Position>
-    requires ready { ready change.old }
-    requires pictures { Redrawable (length old.old) (scene change.old) }
+    requires ready { C.ready change.old }
+    requires pictures { Redrawable (length old.old) (C.scene change.old) }
     requires buffers { length new.old ≡ length old.old }
-    requires within { last < length (scene change.old).before.rows }
-    ensures says { SentSays (written writer.old) (written writer.new) (lent writer.old).capacity (length old.old) (pending_from last cursor_row 0) (scene change.old) result }
-    ensures stays { scene change.new ≡ scene change.old }
-    ensures still_ready { ready change.new }
-    ensures touches { touched change.new ≤ touched change.old + visited last cursor_row 0 * (2 * (scene change.old).row_touches) }
-    ensures same { lent writer.new ≡ lent writer.old }
+    requires within { last < length (C.scene change.old).before.rows }
+    ensures says { SentSays (W.written writer.old) (W.written writer.new) (W.lent writer.old).capacity (length old.old) (pending_from last cursor_row 0) (C.scene change.old) result }
+    ensures stays { C.scene change.new ≡ C.scene change.old }
+    ensures still_ready { C.ready change.new }
+    ensures touches { C.touched change.new ≤ C.touched change.old + visited last cursor_row 0 * (2 * (C.scene change.old).row_touches) }
+    ensures same { W.lent writer.new ≡ W.lent writer.old }
 {
     let at = change.cursor_before();
     if last == cursor_row {
@@ -105,14 +105,14 @@ fn redraw_rows<C: Change, W: ByteWriter>(
     old: &mut [u8],
     new: &mut [u8],
 ) -> Option<Position>
-    requires ready { ready change.old }
-    requires pictures { Redrawable (length old.old) (scene change.old) }
+    requires ready { C.ready change.old }
+    requires pictures { Redrawable (length old.old) (C.scene change.old) }
     requires buffers { length new.old ≡ length old.old }
-    ensures says { SentSays (written writer.old) (written writer.new) (lent writer.old).capacity (length old.old) none_pending (scene change.old) result }
-    ensures stays { scene change.new ≡ scene change.old }
-    ensures still_ready { ready change.new }
-    ensures touches { touched change.new ≤ touched change.old + length (scene change.old).before.rows * (2 * (scene change.old).row_touches) }
-    ensures same { lent writer.new ≡ lent writer.old }
+    ensures says { SentSays (W.written writer.old) (W.written writer.new) (W.lent writer.old).capacity (length old.old) none_pending (C.scene change.old) result }
+    ensures stays { C.scene change.new ≡ C.scene change.old }
+    ensures still_ready { C.ready change.new }
+    ensures touches { C.touched change.new ≤ C.touched change.old + length (C.scene change.old).before.rows * (2 * (C.scene change.old).row_touches) }
+    ensures same { W.lent writer.new ≡ W.lent writer.old }
 {
     let last = change.rows() - 1;
     let cursor = change.cursor_after();
@@ -129,13 +129,13 @@ pub fn redraw<C: Change>(
     old: &mut [u8],
     new: &mut [u8],
 ) -> Option<usize>
-    requires ready { ready change.old }
-    requires pictures { Redrawable (length old.old) (scene change.old) }
+    requires ready { C.ready change.old }
+    requires pictures { Redrawable (length old.old) (C.scene change.old) }
     requires buffers { length new.old ≡ length old.old }
-    ensures says { RedrawSays (scene change.old).before (scene change.old).after (length old.old) (length out.old) out.new result }
-    ensures stays { scene change.new ≡ scene change.old }
-    ensures still_ready { ready change.new }
-    ensures touches { touched change.new ≤ touched change.old + length (scene change.old).before.rows * (2 * (scene change.old).row_touches) }
+    ensures says { RedrawSays (C.scene change.old).before (C.scene change.old).after (length old.old) (length out.old) out.new result }
+    ensures stays { C.scene change.new ≡ C.scene change.old }
+    ensures still_ready { C.ready change.new }
+    ensures touches { C.touched change.new ≤ C.touched change.old + length (C.scene change.old).before.rows * (2 * (C.scene change.old).row_touches) }
 {
     let mut writer = Output {
         bytes: out,

@@ -20,10 +20,10 @@ const HOME: Position = Position { row: 0, column: 0 };
 
 /// Ends a sequence that the terminal may be in, and sends the cursor home.
 fn begin_painting<W: ByteWriter>(writer: &mut W)
-    requires { length (written writer.old) + 13 ≤ (lent writer.old).capacity }
-    ensures says { written writer.new ≡ (written writer.old ++ (cancel_sequence ∷ [])) ++ move_bytes 0 0 }
-    ensures long { length (written writer.new) ≤ length (written writer.old) + 13 }
-    ensures same { lent writer.new ≡ lent writer.old }
+    requires { length (W.written writer.old) + 13 ≤ (W.lent writer.old).capacity }
+    ensures says { W.written writer.new ≡ (W.written writer.old ++ (cancel_sequence ∷ [])) ++ move_bytes 0 0 }
+    ensures long { length (W.written writer.new) ≤ length (W.written writer.old) + 13 }
+    ensures same { W.lent writer.new ≡ W.lent writer.old }
 {
     writer.write_byte(CANCEL);
     write_move(writer, HOME);
@@ -36,15 +36,15 @@ fn repaint_rows<C: Change, W: ByteWriter>(
     rows: u16,
     new: &mut [u8],
 ) -> Position
-    requires ready { ready change.old }
-    requires picture { Drawable rows (length new.old) (scene change.old).after }
-    requires roomy { length (written writer.old) + rows * (16 + length new.old) ≤ (lent writer.old).capacity }
-    ensures says { PaintSays (written writer.old) (written writer.new) rows (length new.old) (scene change.old).after result }
-    ensures long { length (written writer.new) ≤ length (written writer.old) + rows * (16 + length new.old) }
-    ensures stays { scene change.new ≡ scene change.old }
-    ensures still_ready { ready change.new }
-    ensures touches { touched change.new ≤ touched change.old + rows * (scene change.old).row_touches }
-    ensures same { lent writer.new ≡ lent writer.old }
+    requires ready { C.ready change.old }
+    requires picture { Drawable rows (length new.old) (C.scene change.old).after }
+    requires roomy { length (W.written writer.old) + rows * (16 + length new.old) ≤ (W.lent writer.old).capacity }
+    ensures says { PaintSays (W.written writer.old) (W.written writer.new) rows (length new.old) (C.scene change.old).after result }
+    ensures long { length (W.written writer.new) ≤ length (W.written writer.old) + rows * (16 + length new.old) }
+    ensures stays { C.scene change.new ≡ C.scene change.old }
+    ensures still_ready { C.ready change.new }
+    ensures touches { C.touched change.new ≤ C.touched change.old + rows * (C.scene change.old).row_touches }
+    ensures same { W.lent writer.new ≡ W.lent writer.old }
 {
     let mut at = HOME;
     for row in 0..rows {
@@ -57,12 +57,12 @@ fn repaint_rows<C: Change, W: ByteWriter>(
 /// Writes what makes every terminal of the size show the picture to come, in whatever state it is, to the front of `out`, and says how
 /// many bytes that is. None if `out` is shorter than a screen may cost. `new` is room for a row.
 pub fn repaint<C: Change>(change: &mut C, out: &mut [u8], new: &mut [u8]) -> Option<usize>
-    requires ready { ready change.old }
-    requires picture { Drawable (length (scene change.old).before.rows) (length new.old) (scene change.old).after }
-    ensures says { RepaintSays (length (scene change.old).before.rows) (length new.old) (scene change.old).after (length out.old) out.new result }
-    ensures stays { scene change.new ≡ scene change.old }
-    ensures still_ready { ready change.new }
-    ensures touches { touched change.new ≤ touched change.old + length (scene change.old).before.rows * (scene change.old).row_touches }
+    requires ready { C.ready change.old }
+    requires picture { Drawable (length (C.scene change.old).before.rows) (length new.old) (C.scene change.old).after }
+    ensures says { RepaintSays (length (C.scene change.old).before.rows) (length new.old) (C.scene change.old).after (length out.old) out.new result }
+    ensures stays { C.scene change.new ≡ C.scene change.old }
+    ensures still_ready { C.ready change.new }
+    ensures touches { C.touched change.new ≤ C.touched change.old + length (C.scene change.old).before.rows * (C.scene change.old).row_touches }
 {
     let rows = change.rows();
     if out.len() < SCREEN_EXTRA + rows as usize * (ROW_EXTRA + new.len()) {

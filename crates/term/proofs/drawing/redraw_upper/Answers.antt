@@ -5,7 +5,7 @@ use Rattle.term_rows.specs.Lent.{Lent}
 use Rattle.term.proofs.Scenes.{height}
 use Rattle.term.proofs.Upper.{row_says, still_redrawable, upper_row, upper_skip, upper_refused, touches_row, touches_skip, touches_refused}
 use Rattle.term.proofs.drawing.redraw_upper.Goals as goal
-use Rattle.term.proofs.drawing.redraw_upper.Goals.{then-row-cursor-row+in-ok-at, else-row-cursor_row}
+use Rattle.term.proofs.drawing.redraw_upper.Goals.{then-row-cursor_row+in_ok-at, else-row-cursor_row}
 
 pub loop-row-init : goal.loop-row-init
 loop-row-init g c = (λ start z. z, refl, c.requires.ready, omega arith, refl)
@@ -39,10 +39,10 @@ loop-row-preserved g c =
     let s : Scene = g.C.Change.scene c.args.change.now in
     let e : g.C.Change.scene c.loop-row.change ≡ s = c.loop-row.invariant.1 in
     elim c.if-row-cursor_row.branch [
-      | then-row-cursor-row+in-ok-at w ↦
+      | then-row-cursor_row+in_ok-at w ↦
           let o = w.in_ok-at.ensures in
           let q = row_says _ (g.W.ByteWriter.written w.redraw_row.new.writer) 0 _ _ c.loop-row.row _ s c.loop-row.at (Some w.in_ok-at.at) c.loop-row.auto.old e o.says in
-          rw (w.change-is, w.writer-is, w.at_is) (
+          rw (w.change-is, w.writer-is, w.at-is) (
             upper_row _ _ _ s c.requires.pictures c.requires.within _ _ _ _ _ c.loop-row.row _ _ _ _ c.loop-row-test.true w.if-row-cursor_row.true c.loop-row.invariant.0 q,
             o.stays ∙ e,
             o.still_ready,
@@ -50,7 +50,7 @@ loop-row-preserved g c =
             o.same ∙ c.loop-row.invariant.4,
           )
       | else-row-cursor_row w ↦
-          rw (w.change-is, w.writer-is, w.at_is) (
+          rw (w.change-is, w.writer-is, w.at-is) (
             upper_skip _ _ _ s c.requires.pictures c.requires.within _ _ _ _ c.loop-row.row _ _ w.if-row-cursor_row.false c.loop-row.invariant.0,
             e,
             c.loop-row.invariant.2,
