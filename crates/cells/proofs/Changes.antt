@@ -1,11 +1,11 @@
 -- What a change of one cell does to the parts of a sound heap.
-use Rattle.std.proofs.Common.{◌≡◌, ℕ, zero, suc, ◌+◌, ◌*◌, ◌<◌, ◌≤◌, cond, eqb, ◌≢◌, ◌⊎◌, List, [], ◌∷◌, length, drop, sym, refl, ap, ◌∙◌, subst, inl, inr, arith}
+use Rattle.std.proofs.Common.{◌≡◌, ℕ, ◌+◌, ◌<◌, ◌≤◌, cond, eqb, ◌≢◌, List, ◌∷◌, length, drop, sym, refl, ap, ◌∙◌, subst, inl, inr, arith}
 use Rattle.std.proofs.lemmas.Bool.{cases_eq, cond-true, cond-false, eq-eqb, ne_eqb}
 use Rattle.cells.specs.Layout.{cell, at, taken, first_dead}
 use Rattle.cells.specs.Tree.{Tree, none, node, Val}
 use Rattle.cells.specs.Sound.{hit, occ, ins, Chain, Known, Counted, DeadList, Ranked, Sound}
 use Rattle.cells.proofs.Rows.{at_cell}
-use Rattle.cells.proofs.Tallies.{hit_eq, hit_ne, hit_le, ins_same, ins_change, ins_one, ins_none, ins_more, chain_move}
+use Rattle.cells.proofs.Tallies.{hit_eq, hit_ne, hit_le, ins_change, ins_one, chain_move}
 
 -- only cell d and the first dead one may differ
 pub record Near (m m' : List ℕ) (d : ℕ) : Type 0 where

@@ -1,10 +1,10 @@
 -- What taking a cell past the others does to a row.
-use Rattle.std.proofs.Common.{◌≡◌, ℕ, zero, suc, ◌+◌, ◌*◌, ◌<◌, ◌≤◌, ◌≢◌, ◌⊎◌, List, [], ◌∷◌, length, sym, refl, ap, ◌∙◌, subst, inl, inr, arith}
+use Rattle.std.proofs.Common.{◌≡◌, ℕ, ◌+◌, ◌*◌, ◌<◌, ◌≤◌, ◌≢◌, List, ◌∷◌, length, sym, refl, ap, ◌∙◌, subst, inl, inr, arith}
 use Rattle.std.proofs.lemmas.Bool.{cases_eq}
-use Rattle.cells.specs.Layout.{cell, at, put, filled, state, taken, first_dead}
-use Rattle.cells.specs.Tree.{Tree, none, node, Val}
+use Rattle.cells.specs.Layout.{cell, at, put, filled, taken, first_dead}
+use Rattle.cells.specs.Tree.{Tree, node, Val}
 use Rattle.cells.specs.Sound.{hit, occ, ins, Chain, Known, Counted, DeadList, Ranked, Sound}
-use Rattle.cells.specs.Have.{Item, item, refs, Stand, Have}
+use Rattle.cells.specs.Have.{item, refs, Have}
 use Rattle.cells.specs.Steps.{Kept, Made}
 use Rattle.cells.proofs.Rows.{length_put, at_cell, cell_other, at_put, at_other, length_filled, cell_filled, cell_filled_other, state_filled}
 use Rattle.cells.proofs.Tallies.{hit_eq, hit_ne, ins_none, ins_more, ins_same, chain_move}

@@ -1,11 +1,11 @@
 -- A fresh header, a write to the state, and zeros behind the row.
-use Rattle.std.proofs.Common.{◌≡◌, ℕ, ◌+◌, ◌*◌, ◌<◌, ◌≤◌, List, [], ◌∷◌, ◌++◌, length, get_or, take, drop, set, replicate, sym, refl, ap, ◌∙◌, subst, arith, length-append}
-use Rattle.std.proofs.lemmas.List.{length-set, length-replicate, length-drop, get_or-take, take-set-le}
+use Rattle.std.proofs.Common.{◌≡◌, ℕ, ◌+◌, ◌<◌, ◌≤◌, List, [], ◌++◌, length, get_or, take, drop, set, replicate, refl, ap, ◌∙◌, subst, arith, length-append}
+use Rattle.std.proofs.lemmas.List.{length-set, length-drop, get_or-take, take-set-le}
 use Rattle.words.specs.Padded.{zeros}
 use Rattle.cells.specs.Layout.{cell, at, state, roots, taken, first_dead, fresh}
-use Rattle.cells.specs.Tree.{Tree, none, node, Val}
-use Rattle.cells.specs.Sound.{occ, Known, Sound}
-use Rattle.cells.specs.Have.{Item, item, refs, Have, Lent}
+use Rattle.cells.specs.Tree.{Tree, none, node}
+use Rattle.cells.specs.Sound.{Sound}
+use Rattle.cells.specs.Have.{Item, refs, Have, Lent}
 use Rattle.cells.specs.Steps.{Begun, Stays}
 use Rattle.cells.specs.Theorems.{LongerRow}
 use Rattle.cells.proofs.Lists.{take_set}

@@ -1,10 +1,9 @@
 -- Held and lent references, and what leaves them as they are.
-use Rattle.std.proofs.Common.{◌≡◌, ℕ, zero, suc, ◌+◌, ◌*◌, ◌<◌, ◌≤◌, ◌≢◌, ◌⊎◌, List, [], ◌∷◌, length, drop, sym, refl, ap, ◌∙◌, subst, inl, inr, arith}
-use Rattle.std.proofs.lemmas.Bool.{cases_eq}
+use Rattle.std.proofs.Common.{◌≡◌, ℕ, suc, ◌+◌, ◌*◌, ◌<◌, ◌≤◌, List, [], ◌∷◌, length, drop, sym, refl, ap, ◌∙◌, subst, arith}
 use Rattle.cells.specs.Layout.{cell, at, taken, first_dead}
 use Rattle.cells.specs.Tree.{Tree, none, node, Val}
-use Rattle.cells.specs.Sound.{hit, occ, ins, Chain, Known, Counted, DeadList, Ranked, Sound}
-use Rattle.cells.specs.Have.{Item, item, ref, refs, Stand, Have, Lent}
+use Rattle.cells.specs.Sound.{hit, occ, Chain, Known, Counted, Sound}
+use Rattle.cells.specs.Have.{Item, item, refs, Stand, Have, Lent}
 use Rattle.cells.proofs.Rows.{at_cell}
 use Rattle.cells.proofs.Tallies.{hit_eq, hit_ne, ins_one, ins_same, chain_move}
 use Rattle.cells.proofs.Changes.{sound_same}

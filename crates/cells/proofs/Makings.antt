@@ -1,13 +1,13 @@
 -- What making a node does to a row.
-use Rattle.std.proofs.Common.{◌≡◌, ℕ, zero, suc, ◌+◌, ◌*◌, ◌<◌, ◌≤◌, ◌≢◌, ◌⊎◌, List, [], ◌∷◌, length, get_or, drop, sym, refl, ap, ◌∙◌, subst, inl, inr, arith}
+use Rattle.std.proofs.Common.{◌≡◌, ℕ, ◌+◌, ◌*◌, ◌<◌, ◌≤◌, ◌≢◌, List, [], ◌∷◌, length, get_or, drop, sym, refl, ap, ◌∙◌, subst, inl, inr, arith}
 use Rattle.std.proofs.lemmas.Bool.{cases_eq}
-use Rattle.cells.specs.Layout.{cell, at, put, filled, state, taken, first_dead}
-use Rattle.cells.specs.Tree.{Tree, none, node, Val}
-use Rattle.cells.specs.Sound.{hit, occ, ins, Known, Counted, DeadList, Ranked, Sound}
-use Rattle.cells.specs.Have.{Item, item, ref, refs, Stand, Have}
+use Rattle.cells.specs.Layout.{cell, at, put, filled, first_dead}
+use Rattle.cells.specs.Tree.{Tree, node, Val}
+use Rattle.cells.specs.Sound.{hit, occ, Known, Counted, DeadList, Ranked, Sound}
+use Rattle.cells.specs.Have.{Item, item, refs, Stand, Have}
 use Rattle.cells.specs.Steps.{Kept, Making, Made, Dropped, Reusing}
-use Rattle.cells.proofs.Rows.{length_put, at_cell, cell_put, cell_other, at_put, at_other, state_put, length_filled, cell_filled, cell_filled_other, state_filled}
-use Rattle.cells.proofs.Tallies.{hit_eq, hit_ne, ins_none, ins_more, ins_same, chain_move}
+use Rattle.cells.proofs.Rows.{length_put, at_cell, cell_other, at_put, at_other, length_filled, cell_filled, cell_filled_other, state_filled}
+use Rattle.cells.proofs.Tallies.{hit_eq, hit_ne}
 use Rattle.cells.proofs.Changes.{Near, Apart, apart, not_held, counted_change, listed_less, ranked_fill, val_apart}
 use Rattle.cells.proofs.Held.{stand_on}
 use Rattle.cells.proofs.Sharings.{kept_put, kept_on}

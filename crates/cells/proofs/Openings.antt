@@ -1,9 +1,9 @@
 -- The steps of taking a node apart: its children are shared, the right one first, and it is let go.
-use Rattle.std.proofs.Common.{◌≡◌, ℕ, ◌+◌, ◌*◌, ◌<◌, ◌≤◌, List, [], ◌∷◌, length, drop, Some, None, Option, sym, refl, ap, ◌∙◌, subst, arith, MatchOption}
+use Rattle.std.proofs.Common.{◌≡◌, ℕ, ◌+◌, ◌*◌, ◌≤◌, List, ◌∷◌, length, drop, Some, None, Option, sym, ◌∙◌, subst, arith, MatchOption}
 use Rattle.cells.specs.Layout.{cell, at}
-use Rattle.cells.specs.Tree.{Tree, none, node, Val}
+use Rattle.cells.specs.Tree.{Tree, node}
 use Rattle.cells.specs.declared.cell.Ref.{Ref}
-use Rattle.cells.specs.Have.{Item, item, refs, Stand, Have, Lent, opt}
+use Rattle.cells.specs.Have.{Item, item, refs, Have, Lent, opt}
 use Rattle.cells.specs.Steps.{Reading, Sharing, Shared, Holding, Released, Opening, Opened, Made, GaveUp}
 use Rattle.cells.proofs.Held.{reorder, held, lend, lend_left, lend_right}
 

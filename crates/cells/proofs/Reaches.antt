@@ -1,10 +1,10 @@
 -- No cell is lost, and where none is dead there are no more cells than the trees of what is held have.
-use Rattle.std.proofs.Common.{◌≡◌, ℕ, zero, suc, ◌+◌, ◌*◌, ◌<◌, ◌≤◌, ◌≢◌, ◌⊎◌, List, [], ◌∷◌, ◌++◌, length, sym, refl, ap, ◌∙◌, subst, inl, inr, ⊎_elim, arith, length-append}
+use Rattle.std.proofs.Common.{◌≡◌, ℕ, zero, suc, ◌+◌, ◌<◌, ◌≤◌, ◌⊎◌, List, [], ◌∷◌, ◌++◌, length, sym, refl, ap, ◌∙◌, subst, inl, inr, ⊎_elim, arith, length-append}
 use Rattle.std.proofs.lemmas.Bool.{cases_eq, cases_lt}
 use Rattle.cells.specs.Layout.{at, taken, first_dead}
 use Rattle.cells.specs.Tree.{Tree, none, node, Val, nodes}
-use Rattle.cells.specs.Sound.{hit, occ, ins, Chain, DeadList, Sound}
-use Rattle.cells.specs.Have.{Item, item, refs, Stand, Have, all_nodes}
+use Rattle.cells.specs.Sound.{hit, occ, ins, DeadList, Sound}
+use Rattle.cells.specs.Have.{Item, item, refs, Stand, all_nodes}
 use Rattle.cells.specs.Theorems.{Under, here, leftward, rightward, NoCellLost, Counting}
 use Rattle.cells.proofs.Tallies.{hit_eq, hit_ne, hit_le, ins_find, occ_append}
 use Rattle.cells.proofs.Trees.{bound}

@@ -1,5 +1,5 @@
 -- Laws of `cell`, `at`, `put`, `over` and `state`.
-use Rattle.std.proofs.Common.{◌≡◌, ℕ, zero, suc, ◌+◌, ◌-◌, ◌*◌, ◌<◌, ◌≤◌, ◌≢◌, List, [], ◌∷◌, ◌++◌, length, get_or, take, drop, set, replicate, sym, refl, ap, ◌∙◌, inl, inr, arith}
+use Rattle.std.proofs.Common.{◌≡◌, ℕ, ◌+◌, ◌-◌, ◌*◌, ◌<◌, ◌≤◌, ◌≢◌, List, [], ◌∷◌, ◌++◌, length, get_or, take, drop, set, replicate, sym, refl, ap, ◌∙◌, inl, inr, arith}
 use Rattle.std.proofs.lemmas.Bool.{cases_lt}
 use Rattle.std.proofs.lemmas.List.{length-set, length-take, length-take-le, length-drop, get_or-set_same, get_or-set_other, drop-set-add, ext_get_or, length-append, get_or_append_left, get_or-append_right, get_or-take, get_or-drop, drop_more, set_at, replicate_more, length-replicate, append_assoc, drop-append-le, take-append-le}
 use Rattle.cells.specs.Layout.{cell, at, put, over, filled, state, cleared}

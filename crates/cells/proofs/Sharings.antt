@@ -1,16 +1,16 @@
 -- What sharing and letting go do to a row.
-use Rattle.std.proofs.Common.{◌≡◌, ℕ, zero, suc, ◌+◌, ◌*◌, ◌<◌, ◌≤◌, ◌≢◌, ◌⊎◌, List, [], ◌∷◌, length, drop, sym, refl, ap, ◌∙◌, subst, inl, inr, arith}
+use Rattle.std.proofs.Common.{◌≡◌, ℕ, ◌+◌, ◌*◌, ◌<◌, ◌≤◌, ◌≢◌, List, ◌∷◌, length, drop, sym, refl, ap, ◌∙◌, subst, inl, inr, arith}
 use Rattle.std.proofs.lemmas.List.{drop-set-lt}
 use Rattle.std.proofs.lemmas.Bool.{cases_eq}
-use Rattle.cells.specs.Layout.{cell, at, put, with_dead, state, taken, first_dead}
+use Rattle.cells.specs.Layout.{cell, at, put, with_dead, first_dead}
 use Rattle.cells.specs.Tree.{Tree, none, node, Val}
-use Rattle.cells.specs.Sound.{hit, occ, ins, Known, Counted, Sound}
-use Rattle.cells.specs.Have.{Item, item, ref, refs, Stand, Have, Lent}
+use Rattle.cells.specs.Sound.{hit, occ, Known, Counted, Sound}
+use Rattle.cells.specs.Have.{refs}
 use Rattle.cells.specs.Steps.{Kept, Sharing, Shared, Holding, Released}
 use Rattle.cells.proofs.Rows.{length_put, at_cell, cell_put, cell_other, at_put, at_other, state_put}
 use Rattle.cells.proofs.Tallies.{hit_eq, hit_ne, ins_le, occ_le}
 use Rattle.cells.proofs.Changes.{Near, Body, body, apart, not_held, counted_change, listed_live, listed_more, ranked_same, val_apart, val_body}
-use Rattle.cells.proofs.Held.{stand_on, length_refs, sound_some, sound_none, Held, held}
+use Rattle.cells.proofs.Held.{stand_on, length_refs, sound_some, sound_none, held}
 
 pub near_put : (m : List ℕ) (d k x : ℕ) → 8 ≤ d → k < 16 → Near m (put m d k x) d
 near_put m d k x lo h =

@@ -1,10 +1,10 @@
 -- Each held reference of a sound heap stands for a tree.
-use Rattle.std.proofs.Common.{◌≡◌, ℕ, zero, suc, ◌+◌, ◌*◌, ◌<◌, ◌≤◌, ◌≢◌, ◌⊎◌, List, [], ◌∷◌, drop, sym, refl, ap, ◌∙◌, subst, inl, inr, arith}
+use Rattle.std.proofs.Common.{◌≡◌, ℕ, zero, suc, ◌+◌, ◌<◌, ◌≤◌, List, [], ◌∷◌, drop, sym, refl, ap, subst, inl, inr, arith}
 use Rattle.std.proofs.lemmas.Bool.{cases_eq}
 use Rattle.cells.specs.Layout.{cell, at}
 use Rattle.cells.specs.Tree.{Tree, none, node, Val}
 use Rattle.cells.specs.Sound.{occ, Known, Sound}
-use Rattle.cells.specs.Have.{Item, item, refs, Stand, Have}
+use Rattle.cells.specs.Have.{Item, item, refs, Stand}
 use Rattle.cells.specs.Theorems.{HasTrees}
 use Rattle.cells.proofs.Tallies.{hit_eq}
 

@@ -1,8 +1,7 @@
 -- What the calls ask and do.
 use Rattle.std.specs.Prelude.{◌≡◌, ℕ, ◌+◌, ◌*◌, ◌<◌, ◌≤◌, ◌≢◌, ◌⊎◌, List, [], ◌∷◌, length, replicate, slice_index}
-use Rattle.cells.specs.Layout.{at, state, fresh, taken, first_dead}
-use Rattle.cells.specs.Tree.{Tree, none, node, Val}
-use Rattle.cells.specs.Sound.{occ, Sound}
+use Rattle.cells.specs.Layout.{state, fresh, taken, first_dead}
+use Rattle.cells.specs.Tree.{Tree, node, Val}
 use Rattle.cells.specs.Have.{Item, item, Have, Lent, all_nodes}
 
 -- the row is as long as it was, and the state the same

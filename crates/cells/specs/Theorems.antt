@@ -1,7 +1,7 @@
 -- What holds of every heap.
 use Rattle.std.specs.Prelude.{◌≡◌, ℕ, ◌+◌, ◌<◌, ◌≤◌, ◌⊎◌, List, ◌++◌}
 use Rattle.words.specs.Padded.{zeros}
-use Rattle.cells.specs.Layout.{at, state, roots, taken, first_dead}
+use Rattle.cells.specs.Layout.{at, state, taken, first_dead}
 use Rattle.cells.specs.Sound.{occ, Chain, Sound}
 use Rattle.cells.specs.Have.{Item, refs, Have, all_nodes}
 

@@ -5,7 +5,7 @@ use Rattle.spec.specs.Text.{Text}
 use Rattle.spec.specs.Motions.{times}
 use Rattle.spec.specs.Editor.{Change, UndoUnit, Ed}
 use Rattle.spec.specs.History.{recorded, finish, unmade, remade, undo_once, redo_once}
-use Rattle.spec.specs.HistoryLaws.{unit_changes, undoable, Made, Undone, made}
+use Rattle.spec.specs.HistoryLaws.{unit_changes, undoable, Made, Undone}
 use Rattle.laws.proofs.Replacements.{unmade_applies, remade_applies}
 use Rattle.laws.proofs.Edits.{finish_text}
 use Rattle.laws.proofs.HistoryEdits.{Edits}

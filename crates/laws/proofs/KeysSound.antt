@@ -9,7 +9,7 @@ use Rattle.spec.specs.Dispatch.{typed_key, replay, repeat_last, repeats, pending
 use Rattle.spec.specs.Promises.{Reachable, ReachableFrom}
 use Rattle.laws.proofs.TextMotions.{times_keeps}
 use Rattle.laws.proofs.Dispatching.{repeats_outside}
-use Rattle.laws.proofs.Sound.{Sound, start, finish_keys, closed_sound, typed_sound}
+use Rattle.laws.proofs.Sound.{Sound, finish_keys, closed_sound, typed_sound}
 
 pub initial_sound : (t : Text) (r c : ℕ) → Sound t (initial t r c)
 unfolding initial

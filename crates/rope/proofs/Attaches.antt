@@ -1,10 +1,9 @@
 -- The steps of attaching a rope to another.
-use Rattle.std.proofs.Common.{◌≡◌, ℕ, ◌+◌, ◌-◌, ◌*◌, ◌<◌, ◌≤◌, max, Bool, true, false, cond, not, ◌&&◌, leb, ◌≢◌, ◌⊎◌, List, [], ◌∷◌, length, Some, None, Option, sym, refl, ap, ◌∙◌, subst, ⊎_elim, arith}
+use Rattle.std.proofs.Common.{◌≡◌, ℕ, ◌+◌, ◌-◌, ◌*◌, ◌<◌, ◌≤◌, true, false, ◌≢◌, List, ◌∷◌, length, Some, None, Option, sym, refl, ap, ◌∙◌, subst, ⊎_elim, arith}
 use Rattle.cells.specs.declared.cell.Ref.{Ref}
 use Rattle.cells.specs.Have.{Item, item, Have, opt, all_nodes}
 use Rattle.cells.specs.Steps.{Opening, Holding, Released}
-use Rattle.ropes.specs.Rope.{Rope, empty, leaf, size, height, cells, Inner, Whole}
-use Rattle.ropes.specs.Rope.{node as node_of}
+use Rattle.ropes.specs.Rope.{Rope, leaf, height, cells, Inner, Whole}
 use Rattle.ropes.specs.Join.{fits_beside, merge}
 use Rattle.ropes.specs.Costs.{steps}
 use Rattle.ropes.proofs.Balance.{Fits, inner_some}
@@ -20,7 +19,7 @@ use Rattle.rope.specs.Building.{After, Two, Joins, Fit, Halved, Near, TwoLeaves,
 use Rattle.rope_cells.proofs.Codes.{nodes_code}
 use Rattle.rope.proofs.Holds.{swap_have, back_have, have_same, lends_some, opening_on}
 use Rattle.rope.proofs.Makings.{two_swap, fit_swap, after_most}
-use Rattle.rope.proofs.Merges.{LeafView, leaf_view}
+use Rattle.rope.proofs.Merges.{leaf_view}
 use Rattle.rope.proofs.Sides.{View, view, Level, inner_level, height_on, size_on, cells_on, attach_leaf, attach_beside, attach_inside, attach_fits, cells_attach, size_attach, attach_rotations, attach_steps}
 
 pub leaves_swap : (u v : Rope) → TwoLeaves u v → TwoLeaves v u

@@ -1,24 +1,22 @@
 -- The steps of a concat.
-use Rattle.std.proofs.Common.{◌≡◌, ℕ, ◌+◌, ◌-◌, ◌*◌, ◌<◌, ◌≤◌, max, Bool, true, false, cond, leb, ◌≢◌, List, [], ◌∷◌, length, Some, None, Option, sym, refl, ap, ◌∙◌, subst, arith}
+use Rattle.std.proofs.Common.{◌≡◌, ℕ, ◌+◌, ◌<◌, ◌≤◌, true, false, leb, ◌≢◌, List, ◌∷◌, length, Some, Option, sym, refl, ap, ◌∙◌, subst, arith}
 use Rattle.std.proofs.lemmas.Bool.{le-leb, lt-leb, cond-true, cond-false}
 use Rattle.cells.specs.declared.cell.Ref.{Ref}
-use Rattle.cells.specs.Tree.{Tree, none, Val}
-use Rattle.cells.specs.Have.{Item, item, refs, Have, opt, all_nodes}
+use Rattle.cells.specs.Tree.{Tree}
+use Rattle.cells.specs.Have.{Item, item, refs, Have, opt}
 use Rattle.cells.specs.Sound.{Sound}
-use Rattle.cells.specs.Steps.{Kept}
 use Rattle.cells.proofs.Held.{sound_none}
-use Rattle.ropes.specs.Rope.{Rope, empty, leaf, size, height, cells, Inner, Whole}
+use Rattle.ropes.specs.Rope.{Rope, empty, leaf, height}
 use Rattle.ropes.specs.Rope.{node as node_of}
 use Rattle.ropes.specs.Join.{append, prepend, join, concat}
 use Rattle.ropes.specs.Costs.{steps, concat_steps}
 use Rattle.ropes.proofs.Depths.{height_low}
-use Rattle.rope.specs.declared.sided.Side.{Side}
 use Rattle.rope.specs.declared.sided.Side.TheVariants.{Left, Right}
 use Rattle.rope_cells.specs.declared.reading.Shape.{Shape}
 use Rattle.rope_cells.specs.Coded.{code}
 use Rattle.rope_cells.specs.Lending.{LendsSome, ShapeIs}
 use Rattle.rope.specs.Sided.{attach}
-use Rattle.rope.specs.Building.{After, Two, Joins, Fit, Onto, attach_price, Any, concat_price}
+use Rattle.rope.specs.Building.{Two, Joins, Fit, Onto, attach_price, Any, concat_price}
 use Rattle.rope_cells.proofs.Codes.{none_empty, some_height}
 use Rattle.rope.proofs.Holds.{swap_have, have_same, lends_some}
 use Rattle.rope.proofs.Makings.{some_none, fit_swap}

@@ -1,10 +1,9 @@
 -- The steps of cutting a rope.
-use Rattle.std.proofs.Common.{◌≡◌, ℕ, ◌+◌, ◌-◌, ◌*◌, ◌<◌, ◌≤◌, max, Bool, true, false, cond, eqb, ltb, leb, ◌≢◌, List, [], ◌∷◌, length, take, drop, Some, None, Option, sym, refl, ap, ◌∙◌, subst, arith, length-drop, length-take}
+use Rattle.std.proofs.Common.{◌≡◌, ℕ, ◌+◌, ◌-◌, ◌≤◌, List, ◌∷◌, length, take, drop, Some, None, Option, sym, refl, ap, ◌∙◌, subst, arith, length-drop, length-take}
 use Rattle.cells.specs.declared.cell.Ref.{Ref}
-use Rattle.cells.specs.Tree.{Tree}
-use Rattle.cells.specs.Have.{Item, item, Have, opt, all_nodes}
-use Rattle.cells.specs.Steps.{Released, Holding, Opening}
-use Rattle.ropes.specs.Rope.{Rope, empty, leaf, node, size, height, cells, Inner, Whole}
+use Rattle.cells.specs.Have.{item, Have, opt, all_nodes}
+use Rattle.cells.specs.Steps.{Released, Holding}
+use Rattle.ropes.specs.Rope.{leaf, size, height, cells, Whole}
 use Rattle.ropes.specs.Join.{concat}
 use Rattle.rope_cells.specs.Coded.{code}
 use Rattle.rope_cells.proofs.Codes.{nodes_code}
@@ -16,9 +15,8 @@ use Rattle.rope_cells.specs.declared.leaves.Leaf.{Leaf}
 use Rattle.rope_cells.proofs.Leavings.{leaf_front, leaf_back}
 use Rattle.rope.specs.Building as Building
 use Rattle.rope.specs.Building.{After, Two, Joins, Any, concat_price, Free, Leafed}
-use Rattle.rope.specs.Cutting.{parts, AfterCut, One, LeafCut, Cuts, Beside, JoinsBack, JoinsFront, Pairing, Pairs}
-use Rattle.rope.proofs.Holds.{swap_have, third_have, back_have, have_same, lends, opt_swap, length_opt, nodes_opt}
-use Rattle.rope.proofs.Makings.{some_none}
+use Rattle.rope.specs.Cutting.{parts, One, LeafCut, Cuts, Beside, JoinsBack, JoinsFront, Pairing, Pairs}
+use Rattle.rope.proofs.Holds.{swap_have, have_same, lends, opt_swap, length_opt, nodes_opt}
 
 pub cut_none : (c : Cut) → Some c ≡ None → ⊥
 cut_none c e = let z : ◌≡◌ {A = ℕ} 0 1 = cc in omega arith

@@ -1,19 +1,18 @@
 -- The steps of a double rotation.
-use Rattle.std.proofs.Common.{◌≡◌, ℕ, ◌+◌, ◌<◌, ◌≤◌, max, List, [], ◌∷◌, length, Some, None, Option, sym, refl, ap, ◌∙◌, subst, arith}
+use Rattle.std.proofs.Common.{◌≡◌, ℕ, ◌+◌, ◌<◌, ◌≤◌, max, List, ◌∷◌, length, Option, sym, ap, ◌∙◌, subst, arith}
 use Rattle.cells.specs.declared.cell.Ref.{Ref}
-use Rattle.cells.specs.Tree.{Tree}
 use Rattle.cells.specs.Have.{Item, item, Have, opt, all_nodes}
 use Rattle.cells.specs.Steps.{Opening}
-use Rattle.ropes.specs.Rope.{Rope, size, height, cells, Inner, Whole}
+use Rattle.ropes.specs.Rope.{Rope, size, height, cells, Inner}
 use Rattle.ropes.proofs.Balance.{inner_some}
 use Rattle.ropes.proofs.Joins.{inner_whole}
 use Rattle.rope.specs.declared.sided.Side.{Side}
 use Rattle.rope_cells.specs.Coded.{code}
 use Rattle.rope.specs.Sided.{node_on, double_on}
-use Rattle.rope.specs.Building.{After, Two, Joins, Fit, Couple, Couples, Halved, Peak, Three, Joins3}
+use Rattle.rope.specs.Building.{Two, Joins, Fit, Couple, Couples, Halved, Peak, Three, Joins3}
 use Rattle.rope_cells.proofs.Codes.{nodes_code}
 use Rattle.rope.proofs.Makings.{coupling_few}
-use Rattle.rope.proofs.Holds.{swap_have, third_have, back_have, opening_on, opt_back, opt_swap, length_opt, nodes_opt}
+use Rattle.rope.proofs.Holds.{swap_have, third_have, opening_on, opt_back, opt_swap, length_opt, nodes_opt}
 use Rattle.rope.proofs.Sides.{View, view, Level, inner_level, level_whole, height_on, size_on, cells_on, double_node}
 
 -- the second part is a node

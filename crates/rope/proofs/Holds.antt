@@ -1,9 +1,8 @@
 -- References that are held: reordering them, and reading what they refer to.
-use Rattle.std.proofs.Common.{◌≡◌, ℕ, ◌+◌, ◌*◌, ◌/◌, ◌<◌, ◌≤◌, min, List, [], ◌∷◌, length, Some, None, Option, sym, refl, ap, ◌∙◌, subst, arith}
+use Rattle.std.proofs.Common.{◌≡◌, ℕ, ◌+◌, ◌<◌, ◌≤◌, List, ◌∷◌, length, Some, None, Option, sym, subst, arith}
 use Rattle.cells.specs.declared.cell.Ref.{Ref}
-use Rattle.cells.specs.Layout.{taken}
 use Rattle.cells.specs.Tree.{Tree}
-use Rattle.cells.specs.Have.{Item, item, Have, Lent, opt, all_nodes}
+use Rattle.cells.specs.Have.{Item, item, Have, opt, all_nodes}
 use Rattle.cells.specs.Steps.{Full, Opening}
 use Rattle.cells.proofs.Held.{reorder, lend}
 use Rattle.ropes.specs.Rope.{Rope, size, height, cells, Whole}
@@ -13,7 +12,7 @@ use Rattle.rope.specs.declared.sided.Side.TheVariants.{Left, Right}
 use Rattle.rope.specs.Sided.{node_on}
 use Rattle.rope_cells.proofs.Codes.{nodes_code}
 use Rattle.rope_cells.specs.Coded.{code}
-use Rattle.rope_cells.specs.Lending.{Lends, LendsSome, LendsNode}
+use Rattle.rope_cells.specs.Lending.{Lends, LendsSome}
 use Rattle.rope.specs.Building.{capacity}
 
 pub swap_have : (m : List ℕ) (x y : Item) (xs : List Item) → Have m (x ∷ (y ∷ xs)) → Have m (y ∷ (x ∷ xs))

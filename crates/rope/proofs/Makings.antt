@@ -1,10 +1,10 @@
 -- Making a node of two ropes.
-use Rattle.std.proofs.Common.{◌≡◌, ℕ, ◌+◌, ◌<◌, ◌≤◌, max, List, [], ◌∷◌, length, get_or, Some, None, Option, sym, refl, ap, ◌∙◌, subst, arith}
+use Rattle.std.proofs.Common.{◌≡◌, ℕ, ◌+◌, ◌<◌, ◌≤◌, max, List, ◌∷◌, length, get_or, Some, None, Option, refl, ap, subst, arith}
 use Rattle.cells.specs.declared.cell.Ref.{Ref}
-use Rattle.cells.specs.Tree.{Tree, none}
+use Rattle.cells.specs.Tree.{none}
 use Rattle.cells.specs.Tree.{node as cell_of}
 use Rattle.cells.specs.Have.{Item, item, Have, opt, all_nodes}
-use Rattle.ropes.specs.Rope.{Rope, bytes, size, height, cells, Whole}
+use Rattle.ropes.specs.Rope.{Rope, bytes, height, cells}
 use Rattle.ropes.specs.Rope.{node as node_of}
 use Rattle.cells.specs.Steps.{Making, Released}
 use Rattle.cells.proofs.Held.{sound_some}

@@ -1,11 +1,11 @@
 -- The steps of making one or two leaves of two.
-use Rattle.std.proofs.Common.{◌≡◌, ℕ, ◌+◌, ◌-◌, ◌/◌, ◌<◌, ◌≤◌, Bool, true, false, cond, ◌&&◌, ltb, leb, List, [], ◌∷◌, ◌++◌, length, take, drop, Some, None, Option, sym, refl, ap, ◌∙◌, subst, ⊎_elim, arith, length-append, length-drop, length-take}
+use Rattle.std.proofs.Common.{◌≡◌, ℕ, ◌+◌, ◌-◌, ◌/◌, ◌<◌, ◌≤◌, true, false, cond, ◌&&◌, ltb, leb, List, ◌++◌, length, take, drop, Option, sym, refl, ap, ◌∙◌, subst, ⊎_elim, arith, length-append, length-drop, length-take}
 use Rattle.std.proofs.lemmas.Bool.{le-leb, lt-leb, ltb-true, ltb-false, cond-true, cond-false, and_parts, and_cases}
 use Rattle.cells.specs.declared.cell.Ref.{Ref}
-use Rattle.cells.specs.Have.{Item, item, Have, opt, all_nodes}
+use Rattle.cells.specs.Have.{Have, opt, all_nodes}
 use Rattle.cells.specs.Steps.{Making, Dropped}
 use Rattle.ropes.proofs.Balance.{inner_some}
-use Rattle.ropes.specs.Rope.{Rope, empty, leaf, leaf_min, leaf_max, size, height, cells, Octets, Whole}
+use Rattle.ropes.specs.Rope.{Rope, empty, leaf, leaf_min, leaf_max, height, cells, Octets, Whole}
 use Rattle.ropes.specs.Rope.{node as node_of}
 use Rattle.ropes.specs.Join.{pair, merge}
 use Rattle.rope_cells.specs.Coded.{code}
@@ -13,8 +13,7 @@ use Rattle.rope_cells.specs.Leaves.{LendsLeaf, LeafIs, Joined}
 use Rattle.rope.specs.Merging.{stays, BothAre}
 use Rattle.rope_cells.specs.declared.leaves.Leaf.{Leaf}
 use Rattle.rope.specs.declared.merging.Both.{Both}
-use Rattle.rope.specs.Building.{After, Two, Joins, Fit, Couple, Couples, Free, Leafed, spread, Spreads, TwoLeaves}
-use Rattle.rope_cells.proofs.Codes.{nodes_code}
+use Rattle.rope.specs.Building.{Two, Joins, Fit, Couple, Couples, Free, Leafed, spread, Spreads, TwoLeaves}
 use Rattle.rope.proofs.Holds.{swap_have, opt_swap, length_opt, nodes_opt, have_same, lends}
 use Rattle.rope.proofs.Makings.{coupling_few}
 

@@ -1,15 +1,12 @@
 -- The steps of taking a node apart.
-use Rattle.std.proofs.Common.{◌≡◌, ℕ, ◌+◌, ◌<◌, ◌≤◌, List, [], ◌∷◌, length, sym, refl, ap, ◌∙◌, subst, arith}
+use Rattle.std.proofs.Common.{ℕ, List, ◌∷◌, arith}
 use Rattle.cells.specs.Tree.{Tree}
 use Rattle.cells.specs.Tree.{node as cell_of}
 use Rattle.cells.specs.Have.{Item, item, Have, Lent}
 use Rattle.cells.specs.Steps.{Reading, LeftRead, RightRead, Sharing, Shared, Holding, Released, Opening}
 use Rattle.cells.proofs.Held.{reorder, lend}
-use Rattle.ropes.specs.Rope.{Rope}
-use Rattle.ropes.specs.Rope.{node as node_of}
 use Rattle.ropes.specs.Layout.{node_data}
 use Rattle.rope_cells.specs.Coded.{code}
-use Rattle.rope.specs.Sided.{node_on}
 use Rattle.rope.specs.Building.{Parted, Halved}
 use Rattle.rope.specs.declared.sided.Side.TheVariants.{Left, Right}
 use Rattle.rope.proofs.Holds.{swap_have}

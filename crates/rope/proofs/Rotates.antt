@@ -1,10 +1,9 @@
 -- The steps of a rotation.
-use Rattle.std.proofs.Common.{◌≡◌, ℕ, ◌+◌, ◌*◌, ◌<◌, ◌≤◌, max, List, [], ◌∷◌, length, Some, None, Option, sym, refl, ap, ◌∙◌, subst, arith}
+use Rattle.std.proofs.Common.{◌≡◌, ℕ, ◌+◌, ◌*◌, ◌<◌, ◌≤◌, List, ◌∷◌, length, Some, Option, sym, ap, subst, arith}
 use Rattle.cells.specs.declared.cell.Ref.{Ref}
-use Rattle.cells.specs.Tree.{Tree}
 use Rattle.cells.specs.Have.{Item, item, Have, opt, all_nodes}
 use Rattle.cells.specs.Steps.{Opening}
-use Rattle.ropes.specs.Rope.{Rope, size, height, cells, Inner, Whole}
+use Rattle.ropes.specs.Rope.{Rope, height, cells}
 use Rattle.ropes.proofs.Balance.{inner_some}
 use Rattle.ropes.proofs.Joins.{inner_whole}
 use Rattle.rope.specs.declared.sided.Side.{Side}
@@ -12,12 +11,12 @@ use Rattle.rope_cells.specs.Coded.{code}
 use Rattle.rope_cells.specs.Lending.{LendsSome, ShapeIs}
 use Rattle.rope_cells.specs.declared.reading.Shape.{Shape}
 use Rattle.rope.specs.Sided.{node_on, rotate_on, rotate_parts, double_on, balance_on, rotations_on}
-use Rattle.rope.specs.Building.{After, Two, Joins, Fit, Couple, Couples, Halved, Peak, Tilted, Leaning, Near, Three, Joins3}
+use Rattle.rope.specs.Building.{Two, Joins, Fit, Couple, Couples, Halved, Peak, Tilted, Leaning, Near, Three, Joins3}
 use Rattle.rope_cells.proofs.Codes.{nodes_code}
-use Rattle.rope.proofs.Holds.{swap_have, third_have, back_have, have_same, lends_some, opening_on, opt_next, nodes_opt}
+use Rattle.rope.proofs.Holds.{swap_have, third_have, have_same, lends_some, opening_on}
 use Rattle.rope.proofs.Makings.{coupling_few, some_none}
 use Rattle.rope.proofs.Doubles.{inner_fit}
-use Rattle.rope.proofs.Sides.{View, view, Level, inner_level, level_inner, level_whole, height_on, size_on, cells_on, rotate_single, rotate_twice, balance_rotated, balance_node, rotations_on_one}
+use Rattle.rope.proofs.Sides.{View, view, Level, inner_level, level_inner, height_on, size_on, cells_on, rotate_single, rotate_twice, balance_rotated, balance_node, rotations_on_one}
 
 -- a part and the children of another
 module _ (m : List ℕ) (a b : ℕ) (c : Ref) where

@@ -1,14 +1,14 @@
 -- What holds of ropes joined on either side: each by what holds on the left and on the right.
-use Rattle.std.proofs.Common.{◌≡◌, ℕ, ◌+◌, ◌-◌, ◌<◌, ◌≤◌, max, Bool, true, false, cond, ltb, leb, List, sym, refl, ap, ◌∙◌, subst, arith}
+use Rattle.std.proofs.Common.{◌≡◌, ℕ, ◌+◌, ◌-◌, ◌<◌, ◌≤◌, max, true, false, List, refl, ◌∙◌, arith}
 use Rattle.std.proofs.lemmas.Bool.{le-leb, lt-leb, le-ltb, lt-ltb, cond-true, cond-false, or_left, or_right}
-use Rattle.ropes.specs.Rope.{Rope, empty, leaf, node, bytes, size, height, cells, Inner, Whole}
-use Rattle.ropes.specs.Join.{rotate_double, rotate_left, rotate_right, balance, merge, fits_beside, append, prepend}
+use Rattle.ropes.specs.Rope.{Rope, empty, leaf, node, size, height, cells, Inner, Whole}
+use Rattle.ropes.specs.Join.{rotate_double, rotate_left, rotate_right, balance, fits_beside, append, prepend}
 use Rattle.ropes.specs.Costs.{rotations, steps}
-use Rattle.ropes.proofs.Balance.{Fits, balance_fits}
+use Rattle.ropes.proofs.Balance.{Fits}
 use Rattle.ropes.proofs.Joins.{append_inner, prepend_inner, not_beside}
-use Rattle.ropes.proofs.Rotations.{Apart, append_rotations, prepend_rotations, rotations_none}
+use Rattle.ropes.proofs.Rotations.{append_rotations, prepend_rotations, rotations_none}
 use Rattle.ropes.proofs.Descents.{steps_down}
-use Rattle.ropes.proofs.Counts.{cells_append, cells_prepend, cells_balance}
+use Rattle.ropes.proofs.Counts.{cells_append, cells_prepend}
 use Rattle.ropes.proofs.Cuts.{size_append, size_prepend}
 use Rattle.rope.specs.declared.sided.Side.{Side}
 use Rattle.rope.specs.declared.sided.Side.TheVariants.{Left, Right}

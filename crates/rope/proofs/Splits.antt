@@ -1,16 +1,15 @@
 -- The steps of cutting a rope down its nodes.
-use Rattle.std.proofs.Common.{◌≡◌, ℕ, ◌+◌, ◌-◌, ◌*◌, ◌<◌, ◌≤◌, max, ◌≢◌, List, [], ◌∷◌, length, Some, None, Option, sym, refl, ap, ◌∙◌, subst, arith, length-drop, length-take}
+use Rattle.std.proofs.Common.{◌≡◌, ℕ, ◌+◌, ◌-◌, ◌<◌, ◌≤◌, ◌≢◌, List, ◌∷◌, length, Some, None, Option, sym, refl, ap, ◌∙◌, subst, arith, length-drop, length-take}
 use Rattle.cells.specs.declared.cell.Ref.{Ref}
-use Rattle.cells.specs.Tree.{Tree, none, Val}
-use Rattle.cells.specs.Have.{Item, item, refs, Have, opt, all_nodes}
+use Rattle.cells.specs.Tree.{none}
+use Rattle.cells.specs.Have.{Item, item, refs, Have, all_nodes}
 use Rattle.cells.specs.Sound.{Sound}
 use Rattle.cells.specs.Steps.{Released, Holding, Opening}
 use Rattle.cells.proofs.Held.{sound_some}
-use Rattle.ropes.specs.Rope.{Rope, empty, leaf, node, bytes, size, height, cells, Inner, Whole}
+use Rattle.ropes.specs.Rope.{Rope, empty, leaf, node, bytes, size, height, cells, Inner}
 use Rattle.ropes.specs.Join.{concat}
 use Rattle.ropes.specs.Cut.{front, back}
 use Rattle.ropes.specs.Layout.{sum_at}
-use Rattle.ropes.proofs.Balance.{inner_some}
 use Rattle.ropes.proofs.Joins.{inner_whole}
 use Rattle.ropes.proofs.Cuts.{size_bytes, size_of, front_ok, back_ok, bytes_front, bytes_back}
 use Rattle.ropes.proofs.Counts.{cells_cut}
@@ -22,8 +21,8 @@ use Rattle.rope_cells.specs.Lending.{Lends, LendsSome, LendsChildren, ShapeIs}
 use Rattle.rope_cells.specs.declared.reading.Shape.{Shape}
 use Rattle.rope_cells.proofs.Codes.{nodes_code}
 use Rattle.rope.specs.declared.cutting.Cut.{Cut}
-use Rattle.rope.specs.declared.sided.Side.TheVariants.{Left, Right}
-use Rattle.rope.specs.Building.{Any, concat_price, Halved}
+use Rattle.rope.specs.declared.sided.Side.TheVariants.{Right}
+use Rattle.rope.specs.Building.{Halved}
 use Rattle.rope.specs.Cutting.{parts, AfterCut, One, Sized, Short, LeafCut, Cuts, Splits, cut_price, Beside, JoinsBack, JoinsFront}
 use Rattle.rope.proofs.Holds.{swap_have, third_have, back_have, have_same, lends, lends_some, opening_on}
 use Rattle.rope.proofs.Merges.{LeafView, leaf_view}

@@ -1,10 +1,9 @@
 -- What the data words of a rope's cell are.
-use Rattle.std.proofs.Common.{◌≡◌, ℕ, zero, suc, ◌+◌, ◌-◌, ◌*◌, ◌/◌, ◌%◌, ◌<◌, ◌≤◌, max, Bool, true, false, ltb, ◌≢◌, List, [], ◌∷◌, ◌++◌, length, get_or, sym, refl, ap, ◌∙◌, subst, ⊎_elim, arith}
-use Rattle.cells.specs.Tree.{Tree, none, Val, nodes}
-use Rattle.cells.specs.Tree.{node as cell_of}
-use Rattle.cells.specs.Have.{Item, item, Have, Lent}
+use Rattle.std.proofs.Common.{◌≡◌, ℕ, suc, ◌+◌, ◌/◌, ◌%◌, ◌<◌, ◌≤◌, false, ltb, ◌≢◌, List, [], ◌++◌, length, get_or, sym, refl, ap, ◌∙◌, subst, ⊎_elim, arith}
+use Rattle.cells.specs.Tree.{none, Val, nodes}
+use Rattle.cells.specs.Have.{Lent}
 use Rattle.cells.specs.Steps.{Reading, WordRead}
-use Rattle.ropes.specs.Rope.{Rope, empty, leaf, node, bytes, size, height, cells, is_small, Inner, Whole}
+use Rattle.ropes.specs.Rope.{Rope, empty, leaf, node, bytes, size, height, cells, Whole}
 use Rattle.ropes.specs.Layout.{sums_of, sum_at, pack, digit, node_tag, leaf_data, node_data}
 use Rattle.ropes.proofs.Balance.{inner_some}
 use Rattle.ropes.proofs.Packs.{digit_pack}
@@ -14,8 +13,6 @@ use Rattle.std.proofs.lemmas.Bool.{cases_lt}
 use Rattle.rope_cells.specs.Coded.{code, tag_of}
 use Rattle.rope_cells.specs.Packed.{SumsBack}
 use Rattle.rope_cells.specs.Lending.{Lends, LendsSome, LendsNode, LendsChildren, ShapeIs, SummaryIs}
-use Rattle.rope_cells.specs.declared.reading.Shape.{Shape}
-use Rattle.rope_cells.specs.declared.reading.Summary.{Summary}
 use Rattle.rope_cells.proofs.Packings.{leaf_first, left_sum}
 
 pub nodes_code : (t : Rope) → nodes (code t) ≡ cells t

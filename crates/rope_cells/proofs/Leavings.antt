@@ -1,12 +1,12 @@
 -- The bytes of leaves, read and put together.
-use Rattle.std.proofs.Common.{◌≡◌, ℕ, ◌+◌, ◌-◌, ◌%◌, ◌<◌, ◌≤◌, List, [], ◌∷◌, ◌++◌, length, get_or, take, drop, sym, refl, ap, ◌∙◌, subst, ⊎_elim, arith, length-append, length-drop, length-take}
+use Rattle.std.proofs.Common.{◌≡◌, ℕ, ◌+◌, ◌-◌, ◌%◌, ◌<◌, ◌≤◌, List, ◌++◌, length, get_or, take, drop, sym, ap, ◌∙◌, subst, ⊎_elim, arith, length-append, length-drop, length-take}
 use borrow.Rule.Slice.PartMut.{put_mid}
 use Rattle.std.proofs.lemmas.Bool.{cases_lt}
 use Rattle.std.proofs.lemmas.List.{ext_get_or, get_or-take, get_or-drop, get_or_append_left, get_or-append_right}
 use Rattle.cells.specs.Tree.{none}
 use Rattle.cells.specs.Have.{Lent}
 use Rattle.cells.specs.Steps.{WordsRead}
-use Rattle.ropes.specs.Rope.{Rope, leaf, leaf_max, Whole}
+use Rattle.ropes.specs.Rope.{leaf, Whole}
 use Rattle.ropes.specs.Layout.{leaf_data}
 use Rattle.rope_cells.specs.Coded.{code}
 use Rattle.rope_cells.specs.Packed.{BytesBack}

@@ -1,9 +1,9 @@
 -- What is packed and unpacked, as lists.
-use Rattle.std.proofs.Common.{◌≡◌, ℕ, zero, suc, ◌+◌, ◌-◌, ◌*◌, ◌/◌, ◌%◌, ◌<◌, ◌≤◌, max, ◌≢◌, List, [], ◌∷◌, ◌++◌, length, get_or, set, sym, refl, ap, ◌∙◌, subst, ⊎_elim, arith, length-append, length-set}
-use Rattle.std.proofs.lemmas.Bool.{cases_lt, cases_eq}
+use Rattle.std.proofs.Common.{◌≡◌, ℕ, zero, suc, ◌+◌, ◌-◌, ◌*◌, ◌/◌, ◌%◌, ◌<◌, ◌≤◌, max, List, [], ◌∷◌, ◌++◌, length, get_or, sym, refl, ap, ◌∙◌, ⊎_elim, arith, length-append}
+use Rattle.std.proofs.lemmas.Bool.{cases_lt}
 use Rattle.std.proofs.lemmas.List.{ext_get_or, get_or_append_left, get_or-append_right}
-use Rattle.ropes.specs.Rope.{Rope, bytes, height, leaf_max, Octets}
-use Rattle.ropes.specs.Layout.{sums_of, sum_at, pack, digit, byte_of, word_at, words_from, node_tag, leaf_data, node_data}
+use Rattle.ropes.specs.Rope.{Rope, bytes, height, leaf_max}
+use Rattle.ropes.specs.Layout.{sums_of, sum_at, pack, digit, byte_of, word_at, node_tag, leaf_data, node_data}
 use Rattle.ropes.proofs.Packs.{digit_pack, byte_of_word_at, length_words_from, get_or_words_from}
 use Rattle.ropes.proofs.Sums.{used, length_sums, sum_unused, sums_digits, sum_append}
 use Rattle.rope_cells.specs.Packed.{SumsBack, BytesBack, NodeData}

@@ -1,6 +1,6 @@
 -- The bytes of leaves, read and put together.
 use Rattle.std.specs.Prelude.{◌≡◌, ℕ, ◌+◌, ◌<◌, ◌≤◌, List, ◌++◌, length, take, slice_index}
-use Rattle.ropes.specs.Rope.{Rope, leaf, leaf_max}
+use Rattle.ropes.specs.Rope.{leaf, leaf_max}
 use Rattle.rope_cells.specs.Lending.{Lends}
 use Rattle.rope_cells.specs.declared.leaves.Leaf.{Leaf}
 

@@ -3,7 +3,7 @@ use Rattle.std.proofs.Common.{◌≡◌, ℕ, ◌+◌, ◌-◌, ◌*◌, ◌/◌
 use Rattle.cells.specs.declared.cell.Ref.{Ref}
 use Rattle.cells.specs.Have.{item, Have, opt, all_nodes}
 use Rattle.cells.specs.Steps.{Holding, Released}
-use Rattle.ropes.specs.Rope.{Rope, empty, leaf, bytes, size, height, cells, Octets}
+use Rattle.ropes.specs.Rope.{Rope, empty, leaf, size, height, cells, Octets}
 use Rattle.ropes.specs.Rope.{node as node_of}
 use Rattle.ropes.specs.Build.{left_share, from_bytes}
 use Rattle.ropes.proofs.Builds.{bytes_from_bytes, from_bytes_whole}

@@ -1,5 +1,5 @@
 -- A rope many times behind another: its steps, its bytes and its height.
-use Rattle.std.proofs.Common.{◌≡◌, ℕ, zero, suc, ◌+◌, ◌-◌, ◌*◌, ◌/◌, ◌%◌, ◌^◌, ◌<◌, ◌≤◌, max, Bool, true, false, cond, eqb, List, length, refl, ap, ◌∙◌, ⊎_elim, mul-le-mul_right, suc-mul, add-mul, pow-suc, mul-add, arith, length-append}
+use Rattle.std.proofs.Common.{◌≡◌, ℕ, zero, suc, ◌+◌, ◌*◌, ◌/◌, ◌%◌, ◌^◌, ◌<◌, ◌≤◌, max, Bool, true, false, cond, eqb, List, length, refl, ap, ◌∙◌, ⊎_elim, mul-le-mul_right, suc-mul, add-mul, pow-suc, mul-add, arith, length-append}
 use Rattle.std.proofs.lemmas.Bool.{eq-eqb, ne_eqb, eqb-true, eqb-false, cond_both, cond-true, cond-false, cases_lt}
 use Rattle.spec.specs.Text.{copies}
 use Rattle.ropes.specs.Rope.{Rope, empty, bytes, size, height, Whole}

@@ -1,5 +1,5 @@
 -- The steps of repeating a rope.
-use Rattle.std.proofs.Common.{◌≡◌, ℕ, zero, suc, ◌+◌, ◌-◌, ◌*◌, ◌/◌, ◌^◌, ◌<◌, ◌≤◌, Bool, true, List, ◌∷◌, length, Some, None, Option, sym, refl, ap, ◌∙◌, subst, suc-mul, mul-le-mul_left, arith}
+use Rattle.std.proofs.Common.{◌≡◌, ℕ, zero, suc, ◌+◌, ◌*◌, ◌/◌, ◌^◌, ◌<◌, ◌≤◌, Bool, true, List, ◌∷◌, length, Some, None, Option, sym, refl, ap, ◌∙◌, subst, suc-mul, mul-le-mul_left, arith}
 use Rattle.cells.specs.declared.cell.Ref.{Ref}
 use Rattle.cells.specs.Have.{item, Have, opt}
 use Rattle.cells.specs.Steps.{Sharing, Holding, Released}

@@ -1,9 +1,9 @@
 -- The steps of the way down a rope.
-use Rattle.std.proofs.Common.{◌≡◌, ℕ, zero, suc, ◌+◌, ◌-◌, ◌<◌, ◌≤◌, max, ◌≢◌, List, [], ◌∷◌, ◌++◌, length, sym, refl, ap, ◌∙◌, subst, ⊎_elim, arith, length-append}
+use Rattle.std.proofs.Common.{◌≡◌, ℕ, ◌+◌, ◌-◌, ◌<◌, ◌≤◌, ◌≢◌, List, [], ◌++◌, length, sym, refl, ap, ◌∙◌, subst, ⊎_elim, arith, length-append}
 use Rattle.std.proofs.lemmas.List.{append_assoc, append-nil}
 use Rattle.std.proofs.lemmas.Bool.{cases_lt}
-use Rattle.cells.specs.Steps.{LeftRead, RightRead, Reading}
-use Rattle.ropes.specs.Rope.{Rope, empty, leaf, node, bytes, size, height, Whole}
+use Rattle.cells.specs.Steps.{LeftRead, RightRead}
+use Rattle.ropes.specs.Rope.{Rope, empty, leaf, node, bytes, height, Whole}
 use Rattle.ropes.specs.Layout.{sum_at, node_data}
 use Rattle.ropes.proofs.Joins.{inner_whole}
 use Rattle.ropes.proofs.Balance.{inner_some}

@@ -1,14 +1,13 @@
 -- Ranges of a rope, by its parts.
-use Rattle.std.proofs.Common.{◌≡◌, ℕ, zero, suc, ◌+◌, ◌-◌, ◌*◌, ◌<◌, ◌≤◌, max, true, false, cond, eqb, ltb, ◌≢◌, List, [], ◌∷◌, ◌++◌, length, get_or, take, drop, sym, refl, ap, ◌∙◌, subst, ⊎_elim, arith, length-append, length-drop, length-take, take_all}
+use Rattle.std.proofs.Common.{◌≡◌, ℕ, ◌+◌, ◌-◌, ◌<◌, ◌≤◌, cond, eqb, ltb, ◌≢◌, List, [], ◌∷◌, ◌++◌, length, take, drop, sym, refl, ap, ◌∙◌, ⊎_elim, arith, length-append, length-drop, length-take, take_all}
 use borrow.Rule.Slice.PartMut.{put_mid, post_of}
 use lib.Seq.{drop-append_seam, take-append-le, take-append-add, drop-append-le, drop-append-add}
 use Rattle.std.proofs.lemmas.List.{ext_get_or, get_or-take, get_or-drop, take_at, drop_all, append-nil}
-use Rattle.std.proofs.lemmas.Bool.{cases_lt, cases_eq, eq-eqb, ne_eqb, lt-ltb, le-ltb}
+use Rattle.std.proofs.lemmas.Bool.{cases_lt, eq-eqb, ne_eqb, lt-ltb, le-ltb}
 use Rattle.std.proofs.lemmas.Bool.Decides.{nat_tests}
 use Rattle.cells.specs.Steps.{LeftRead, RightRead}
-use Rattle.ropes.specs.Rope.{Rope, empty, leaf, node, bytes, size, height, Inner, Whole}
+use Rattle.ropes.specs.Rope.{Rope, empty, leaf, node, bytes, size, height, Whole}
 use Rattle.ropes.specs.Layout.{sum_at}
-use Rattle.ropes.proofs.Joins.{inner_whole}
 use Rattle.ropes.proofs.Balance.{inner_some}
 use Rattle.ropes.proofs.Cuts.{size_bytes}
 use Rattle.ropes.proofs.Ends.{inner_size}
@@ -18,7 +17,6 @@ use Rattle.rope_cells.specs.Lending.{Lends, LendsSome, LendsChildren, ShapeIs}
 use Rattle.rope_cells.specs.Leaves.{LendsLeaf, LeafIs}
 use Rattle.rope_cells.specs.declared.leaves.Leaf.{Leaf}
 use Rattle.rope_cells.specs.declared.reading.Shape.{Shape}
-use Rattle.rope_cells.proofs.Codes.{children_whole}
 use Rattle.rope_read.specs.Text.{text}
 use Rattle.rope_read.specs.Ranges.{Sized, Filled, tag_price, path_price, price}
 use Rattle.rope_read.proofs.Texts.{text_is}

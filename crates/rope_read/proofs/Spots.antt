@@ -1,19 +1,19 @@
 -- What the leaf in which a sum is reached tells of the whole text.
-use Rattle.std.proofs.Common.{◌≡◌, ℕ, zero, suc, ◌+◌, ◌-◌, ◌<◌, ◌≤◌, min, ◌≢◌, List, [], ◌∷◌, ◌++◌, length, get_or, take, drop, sym, refl, ap, ◌∙◌, subst, ⊎_elim, arith, length-append, take-append-drop, length-take, take_all, take-add}
+use Rattle.std.proofs.Common.{◌≡◌, ℕ, zero, suc, ◌+◌, ◌-◌, ◌<◌, ◌≤◌, min, List, [], ◌++◌, length, get_or, take, drop, sym, ap, ◌∙◌, ⊎_elim, arith, length-append, take-append-drop, length-take, take_all, take-add}
 use lib.Seq.{take-append-le, take-append-add}
 use Rattle.std.proofs.lemmas.List.{ext_get_or, get_or-take, get_or_append_left, get_or-append-add}
 use Rattle.std.proofs.lemmas.Bool.{cases_lt}
 use Rattle.ropes.specs.Layout.{sum_at}
 use Rattle.ropes.proofs.Cuts.{size_bytes}
 use Rattle.ropes.proofs.Sums.{sum_first, sum_small}
-use Rattle.ropes.specs.Rope.{Rope, empty, leaf, node, bytes, height}
+use Rattle.ropes.specs.Rope.{bytes}
 use Rattle.rope_cells.specs.Lending.{Lends, LendsSome}
 use Rattle.rope_cells.specs.Leaves.{LeafIs}
 use Rattle.rope_cells.specs.declared.leaves.Leaf.{Leaf}
 use Rattle.rope_cells.proofs.Codes.{lends_some, none_empty}
 use Rattle.rope_read.specs.Text.{text}
 use Rattle.rope_read.specs.Reading.{Reached}
-use Rattle.rope_read.specs.Locating.{Reaches, Located}
+use Rattle.rope_read.specs.Locating.{Located}
 use Rattle.rope_read.specs.declared.descent.Route.{Route}
 use Rattle.rope_read.specs.declared.locating.Spot.{Spot}
 use Rattle.rope_read.proofs.Texts.{text_is}

@@ -1,11 +1,11 @@
 -- What is read off the row are the bytes of the rope that is lent.
-use Rattle.std.proofs.Common.{◌≡◌, ℕ, zero, suc, ◌+◌, ◌-◌, ◌*◌, ◌/◌, ◌%◌, ◌<◌, ◌≤◌, max, true, false, cond, eqb, List, [], ◌∷◌, ◌++◌, length, get_or, drop, sym, refl, ap, ◌∙◌, subst, arith}
+use Rattle.std.proofs.Common.{◌≡◌, ℕ, zero, suc, ◌+◌, ◌*◌, ◌/◌, ◌%◌, ◌<◌, ◌≤◌, List, [], ◌++◌, length, get_or, drop, sym, refl, ap, ◌∙◌, arith}
 use Rattle.std.proofs.lemmas.List.{ext_get_or, get_or-drop}
 use Rattle.std.proofs.lemmas.Bool.{eq-eqb, ne_eqb}
 use Rattle.cells.specs.Layout.{at, cell}
 use Rattle.cells.specs.Tree.{Val}
 use Rattle.ropes.specs.Rope.{Rope, empty, leaf, node, bytes, height, Octets, Whole}
-use Rattle.ropes.specs.Layout.{sums_of, pack, byte_of, word_at, leaf_data, node_data, node_tag}
+use Rattle.ropes.specs.Layout.{byte_of, leaf_data, node_data}
 use Rattle.ropes.proofs.Packs.{byte_of_word_at}
 use Rattle.ropes.proofs.Joins.{inner_whole}
 use Rattle.ropes.proofs.Depths.{height_low}

@@ -1,7 +1,7 @@
 -- Rotations keep the bytes, and bring a node back into balance.
-use Rattle.std.proofs.Common.{◌≡◌, ℕ, ◌+◌, ◌-◌, ◌*◌, ◌/◌, ◌<◌, ◌≤◌, max, Bool, true, false, cond, not, ◌&&◌, ltb, leb, List, [], ◌∷◌, ◌++◌, length, take, drop, sym, refl, ap, ◌∙◌, subst, ⊎_elim, append_assoc, arith}
+use Rattle.std.proofs.Common.{◌≡◌, ℕ, ◌+◌, ◌<◌, ◌≤◌, max, ltb, leb, ◌++◌, sym, refl, ◌∙◌, subst, ⊎_elim, append_assoc, arith}
 use Rattle.std.proofs.lemmas.Bool.{ltb-true, ltb-false, leb-true, leb-false, cond_both, cases_lt}
-use Rattle.ropes.specs.Rope.{Rope, empty, leaf, node, leaf_min, leaf_max, bytes, size, height, Inner, Whole, is_small}
+use Rattle.ropes.specs.Rope.{Rope, empty, leaf, node, bytes, height, Inner}
 use Rattle.ropes.specs.Join.{rotate_double, rotate_right, rotate_left, balance}
 
 pub bytes_rotate_double : (a b r : Rope) → bytes (rotate_double a b r) ≡ (bytes a ++ bytes b) ++ bytes r

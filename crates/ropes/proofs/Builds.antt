@@ -1,8 +1,8 @@
 -- A rope that is built has the bytes that it was built of, and is in balance.
-use Rattle.std.proofs.Common.{◌≡◌, ℕ, zero, suc, ◌+◌, ◌-◌, ◌*◌, ◌/◌, ◌^◌, ◌<◌, ◌≤◌, max, Bool, true, false, cond, eqb, ltb, leb, List, [], ◌∷◌, ◌++◌, length, take, drop, sym, refl, ap, ◌∙◌, subst, ⊎_elim, pow-suc, arith, length-drop, length-take}
+use Rattle.std.proofs.Common.{◌≡◌, ℕ, zero, suc, ◌+◌, ◌-◌, ◌*◌, ◌/◌, ◌^◌, ◌<◌, ◌≤◌, cond, eqb, ltb, leb, List, [], ◌∷◌, ◌++◌, length, take, drop, sym, refl, ap, ◌∙◌, subst, ⊎_elim, pow-suc, arith, length-drop, length-take}
 use Rattle.std.proofs.lemmas.Bool.{eqb-true, eqb-false, leb-true, leb-false, le-leb, ltb-true, ltb-false, cond_both, cond-true, cases_lt}
 use Rattle.std.proofs.lemmas.List.{take-append-drop}
-use Rattle.ropes.specs.Rope.{Rope, empty, leaf, node, leaf_min, leaf_max, bytes, size, height, Octets, Inner, Whole}
+use Rattle.ropes.specs.Rope.{Rope, leaf, node, leaf_min, leaf_max, bytes, height, Octets, Inner, Whole}
 use Rattle.ropes.specs.Build.{left_share, build, from_bytes}
 use Rattle.ropes.proofs.Bytes.{octets_take, octets_drop}
 use Rattle.ropes.proofs.Joins.{inner_whole}

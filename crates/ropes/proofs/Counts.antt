@@ -1,5 +1,5 @@
 -- A concat and a cut make one cell more than they take, at most.
-use Rattle.std.proofs.Common.{◌≡◌, ℕ, ◌+◌, ◌-◌, ◌/◌, ◌≤◌, Bool, true, false, cond, ◌&&◌, eqb, ltb, leb, List, [], ◌∷◌, ◌++◌, length, take, drop, refl, arith}
+use Rattle.std.proofs.Common.{◌≡◌, ℕ, ◌+◌, ◌-◌, ◌≤◌, Bool, true, false, cond, ◌&&◌, eqb, ltb, leb, List, [], ◌∷◌, length, take, drop, refl, arith}
 use Rattle.std.proofs.lemmas.Bool.{cond_both}
 use Rattle.ropes.specs.Rope.{Rope, empty, leaf, node, leaf_min, leaf_max, size, height, cells}
 use Rattle.ropes.specs.Join.{rotate_double, rotate_right, rotate_left, balance, pair, merge, fits_beside, append, prepend, join, concat}

@@ -1,9 +1,9 @@
 -- The two parts of a cut: their bytes, that they are ropes, and that they are no higher.
-use Rattle.std.proofs.Common.{◌≡◌, ℕ, ◌+◌, ◌-◌, ◌*◌, ◌<◌, ◌≤◌, max, Bool, true, false, cond, eqb, ltb, leb, List, [], ◌∷◌, ◌++◌, length, take, drop, sym, refl, ap, ◌∙◌, subst, append_assoc, append-nil, arith, length-append, length-drop, length-take}
+use Rattle.std.proofs.Common.{◌≡◌, ℕ, ◌+◌, ◌-◌, ◌≤◌, eqb, ltb, leb, List, [], ◌∷◌, ◌++◌, length, take, drop, sym, refl, ap, ◌∙◌, arith, length-append, length-drop, length-take}
 use lib.Seq.{take-nil, drop-nil, take-append-add, drop-append-add}
 use Rattle.std.proofs.lemmas.Bool.{eqb-true, leb-true, ltb-true, ltb-false, cond_both}
 use Rattle.std.proofs.lemmas.List.{take-append-le, drop-append-le, take_all, drop_all}
-use Rattle.ropes.specs.Rope.{Rope, empty, leaf, node, leaf_max, bytes, size, height, Octets, Inner, Whole}
+use Rattle.ropes.specs.Rope.{Rope, empty, leaf, node, leaf_max, bytes, size, height, Octets, Whole}
 use Rattle.ropes.specs.Join.{append, prepend, concat}
 use Rattle.ropes.specs.Cut.{piece, front, back}
 use Rattle.ropes.proofs.Bytes.{octets_take, octets_drop}

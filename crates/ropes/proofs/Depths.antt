@@ -1,5 +1,5 @@
 -- How high a rope is at most, and how many cells it has at most, by its bytes.
-use Rattle.std.proofs.Common.{◌≡◌, ℕ, zero, suc, ◌+◌, ◌*◌, ◌/◌, ◌^◌, ◌<◌, ◌≤◌, max, length, refl, ⊎_elim, arith}
+use Rattle.std.proofs.Common.{◌≡◌, ℕ, zero, suc, ◌+◌, ◌*◌, ◌/◌, ◌^◌, ◌<◌, ◌≤◌, refl, ⊎_elim, arith}
 use Rattle.std.proofs.lemmas.Bool.{cases_lt}
 use Rattle.ropes.specs.Rope.{Rope, empty, leaf, node, leaf_min, size, height, leaves, cells, Inner, Whole}
 use Rattle.ropes.proofs.Balance.{inner_some}

@@ -1,12 +1,12 @@
 -- How many nodes a concat opens. What the concats of a cut open falls short of how much the parts gain in height.
-use Rattle.std.proofs.Common.{◌≡◌, ℕ, ◌+◌, ◌-◌, ◌<◌, ◌≤◌, max, Bool, true, false, cond, not, ◌&&◌, ltb, leb, ◌⊎◌, length, sym, refl, ap, ◌∙◌, subst, inl, inr, ⊎_elim, arith}
+use Rattle.std.proofs.Common.{◌≡◌, ℕ, ◌+◌, ◌-◌, ◌<◌, ◌≤◌, true, false, cond, leb, refl, ⊎_elim, arith}
 use Rattle.std.proofs.lemmas.Bool.{le-ltb, leb-true, leb-false, cond_both, cond-true, cond-false, and_cases, not-false}
 use Rattle.ropes.specs.Rope.{Rope, empty, leaf, node, height, is_small, Inner, Whole}
 use Rattle.ropes.specs.Join.{fits_beside, concat}
 use Rattle.ropes.specs.Cut.{front, back}
 use Rattle.ropes.specs.Costs.{gap, steps, concat_steps}
 use Rattle.ropes.proofs.Balance.{inner_some}
-use Rattle.ropes.proofs.Joins.{Joined, concat_ok, inner_whole, small_low}
+use Rattle.ropes.proofs.Joins.{concat_ok, inner_whole, small_low}
 use Rattle.ropes.proofs.Cuts.{front_ok, back_ok}
 
 pub inner_not_small : (t : Rope) → Inner t → is_small t ≡ false

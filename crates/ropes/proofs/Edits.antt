@@ -1,10 +1,10 @@
 -- Slices, replacements and repeats: their bytes, and that they are ropes.
-use Rattle.std.proofs.Common.{◌≡◌, ℕ, zero, suc, ◌+◌, ◌-◌, ◌*◌, ◌/◌, ◌%◌, ◌^◌, ◌<◌, ◌≤◌, max, Bool, true, false, cond, eqb, ◌≢◌, List, [], ◌∷◌, ◌++◌, length, take, drop, sym, refl, ap, ◌∙◌, subst, append_assoc, append-nil, pow-suc, arith}
+use Rattle.std.proofs.Common.{◌≡◌, ℕ, zero, suc, ◌+◌, ◌*◌, ◌/◌, ◌%◌, ◌^◌, ◌<◌, ◌≤◌, max, eqb, ◌≢◌, List, [], ◌++◌, take, drop, sym, refl, ap, ◌∙◌, append_assoc, append-nil, pow-suc, arith}
 use Rattle.std.proofs.lemmas.Bool.{eqb-true, eqb-false, cond_both}
 use Rattle.std.proofs.lemmas.List.{take-take}
 use Rattle.std.proofs.lemmas.Slice.{between_is}
 use Rattle.spec.specs.Text.{part, replaced, copies}
-use Rattle.ropes.specs.Rope.{Rope, bytes, size, height, Whole}
+use Rattle.ropes.specs.Rope.{Rope, bytes, height, Whole}
 use Rattle.ropes.specs.Join.{concat}
 use Rattle.ropes.specs.Cut.{front, back, slice, replace, repeat_onto}
 use Rattle.ropes.proofs.Joins.{bytes_concat, concat_ok}

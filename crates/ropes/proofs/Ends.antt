@@ -1,8 +1,8 @@
 -- Cutting at an end, and inside a node.
-use Rattle.std.proofs.Common.{◌≡◌, ℕ, zero, suc, ◌+◌, ◌-◌, ◌<◌, ◌≤◌, Bool, true, false, cond, eqb, ltb, leb, ◌≢◌, List, [], ◌∷◌, length, take, drop, sym, refl, ap, ◌∙◌, subst, arith}
-use Rattle.std.proofs.lemmas.Bool.{eq-eqb, ne_eqb, le-leb, lt-leb, lt-ltb, le-ltb, cond-true, cond-false}
+use Rattle.std.proofs.Common.{◌≡◌, ℕ, ◌+◌, ◌-◌, ◌<◌, ◌≤◌, ◌≢◌, List, [], ◌∷◌, length, take, drop, refl, ap, ◌∙◌, arith}
+use Rattle.std.proofs.lemmas.Bool.{ne_eqb, le-leb, lt-leb, lt-ltb, le-ltb, cond-true, cond-false}
 use Rattle.std.proofs.lemmas.List.{take_all, drop_all}
-use Rattle.ropes.specs.Rope.{Rope, empty, leaf, node, leaf_min, size, height, Inner, Whole}
+use Rattle.ropes.specs.Rope.{Rope, empty, leaf, node, leaf_min, size, Inner, Whole}
 use Rattle.ropes.specs.Join.{concat}
 use Rattle.ropes.specs.Cut.{piece, front, back}
 

@@ -1,9 +1,9 @@
 -- A concat has the bytes of both ropes, filled leaves and balance.
-use Rattle.std.proofs.Common.{◌≡◌, ℕ, ◌+◌, ◌-◌, ◌*◌, ◌/◌, ◌<◌, ◌≤◌, max, Bool, true, false, cond, not, ◌&&◌, ltb, leb, ◌⊎◌, List, [], ◌∷◌, ◌++◌, length, take, drop, sym, refl, ap, ◌∙◌, subst, inl, inr, ⊎_elim, append_assoc, append-nil, arith, length-append, length-drop, length-take}
-use Rattle.std.proofs.lemmas.Bool.{ltb-true, ltb-false, leb-true, leb-false, cond_both, and_parts, and_cases, not-true, not-false, cases_lt}
+use Rattle.std.proofs.Common.{◌≡◌, ℕ, ◌+◌, ◌/◌, ◌<◌, ◌≤◌, max, Bool, true, false, ◌&&◌, leb, ◌⊎◌, List, ◌++◌, length, take, drop, sym, refl, ap, ◌∙◌, inl, inr, ⊎_elim, append_assoc, append-nil, arith, length-append, length-drop, length-take}
+use Rattle.std.proofs.lemmas.Bool.{ltb-false, leb-true, leb-false, cond_both, and_parts, and_cases, not-true, not-false, cases_lt}
 use Rattle.std.proofs.lemmas.List.{take-append-drop}
-use Rattle.ropes.specs.Rope.{Rope, empty, leaf, node, leaf_min, leaf_max, bytes, size, height, Octets, Inner, Whole, is_small}
-use Rattle.ropes.specs.Join.{balance, pair, merge, fits_beside, append, prepend, join, concat}
+use Rattle.ropes.specs.Rope.{Rope, empty, leaf, node, leaf_min, leaf_max, bytes, height, Inner, Whole, is_small}
+use Rattle.ropes.specs.Join.{pair, merge, fits_beside, append, prepend, join, concat}
 use Rattle.ropes.proofs.Bytes.{octets_append, octets_take, octets_drop}
 use Rattle.ropes.proofs.Balance.{Fits, bytes_balance, grown_left, grown_right, inner_some}
 

@@ -1,6 +1,6 @@
 -- An append rotates once at most: where it did, it is no higher, and where it is higher, it did not.
-use Rattle.std.proofs.Common.{◌≡◌, ℕ, ◌+◌, ◌-◌, ◌*◌, ◌<◌, ◌≤◌, max, Bool, true, false, cond, ◌||◌, ltb, leb, ◌⊎◌, sym, refl, ap, ◌∙◌, subst, inl, inr, ⊎_elim, arith}
-use Rattle.std.proofs.lemmas.Bool.{ltb-true, ltb-false, leb-true, leb-false, le-ltb, cond_both, cond-false, and_parts, or_cases, or_from, cases_lt}
+use Rattle.std.proofs.Common.{◌≡◌, ℕ, ◌+◌, ◌-◌, ◌<◌, ◌≤◌, ◌||◌, ltb, leb, ◌⊎◌, sym, ap, ◌∙◌, subst, inl, inr, ⊎_elim, arith}
+use Rattle.std.proofs.lemmas.Bool.{ltb-true, ltb-false, leb-true, leb-false, le-ltb, cond_both, cond-false, and_parts, or_from, cases_lt}
 use Rattle.ropes.specs.Rope.{Rope, empty, leaf, node, height, Inner, Whole}
 use Rattle.ropes.specs.Join.{rotate_double, rotate_right, rotate_left, balance, fits_beside, append, prepend}
 use Rattle.ropes.specs.Costs.{rotations}

@@ -1,5 +1,5 @@
 -- The worked keys, done by the definitions.
-use Rattle.std.proofs.Common.{◌≡◌, refl}
+use Rattle.std.proofs.Common.{refl}
 use Rattle.spec.proofs.Computing.{computing}
 use Rattle.spec.specs.Worked.{WorkedMotions, WorkedLines, WorkedChanges, WorkedHistory, WorkedScreen, WorkedKeys}
 

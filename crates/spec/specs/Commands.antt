@@ -1,8 +1,8 @@
 -- What each command does to the editor.
-use Rattle.std.specs.Prelude.{ℕ, suc, ◌+◌, ◌-◌, ◌*◌, min, max, Bool, true, false, cond, not, ◌&&◌, ◌||◌, List, [], ◌∷◌, ◌++◌, length, replicate, ◌==◌, nat_le, nat_lt}
+use Rattle.std.specs.Prelude.{ℕ, suc, ◌+◌, ◌-◌, ◌*◌, min, max, true, false, cond, ◌&&◌, ◌||◌, [], ◌∷◌, ◌++◌, length, replicate, ◌==◌, nat_le, nat_lt}
 use Rattle.std.proofs.Math.Option.{Option, some, none}
 use Rattle.spec.specs.Bytes.{newline, space, tab, return, backspace, rubout, escape, is_blank, is_typeable}
-use Rattle.spec.specs.Text.{Text, part, copies, skip_forward, line_end, line_start, column, first_nonblank, clamp}
+use Rattle.spec.specs.Text.{part, copies, skip_forward, line_end, line_start, column, first_nonblank, clamp}
 use Rattle.spec.specs.Motions.{Motion, Target, Region, times, or_one, motion_target, keeps_column, region, lines_region}
 use Rattle.spec.specs.Keys.{Operator, delete, yank, change, Action, delete_chars, join_lines, put_after, put_before, insert_before, insert_after, insert_at_first_nonblank, insert_at_line_end, insert_line_below, insert_line_above, go_back, go_forth, Prefix, counting, operating, no_prefix, total_count, is_operating}
 use Rattle.spec.specs.Editor.{Ed, with_cursor, with_inserting, with_register, with_pending}

@@ -1,10 +1,10 @@
 -- From what is pending and a key to what the editor then is.
 use Rattle.std.specs.Prelude.{ℕ, suc, ◌+◌, ◌-◌, Bool, true, false, cond, not, ◌&&◌, List, [], ◌∷◌, ◌++◌, length, ◌==◌, nat_le, nat_lt}
 use Rattle.spec.specs.Bytes.{ascii, escape}
-use Rattle.spec.specs.Text.{Text, column, line_of}
+use Rattle.spec.specs.Text.{column, line_of}
 use Rattle.spec.specs.Motions.{to_line_start, to_line_or_first, find, till, times, or_one}
 use Rattle.spec.specs.Keys.{Operator, same_operator, Argument, byte_to_find, byte_to_stop_before, byte_to_write, second_g, Key, digit, motion, operator, awaiter, action, repeat, no_command, key_of, Prefix, counting, operating, Pending, ready, awaiting, longer_count, has_count, total_count}
-use Rattle.spec.specs.Editor.{Ed, View, with_keys, with_pending, with_view}
+use Rattle.spec.specs.Editor.{Ed, with_keys, with_pending, with_view}
 use Rattle.spec.specs.History.{cancel}
 use Rattle.spec.specs.Commands.{run_motion, operate_lines, run_action, write_over, insert_key}
 

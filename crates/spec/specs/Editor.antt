@@ -1,5 +1,5 @@
 -- The editor as a value. It is updated by the functions of this file alone, one for each thing that changes.
-use Rattle.std.specs.Prelude.{ℕ, Bool, true, false, List, []}
+use Rattle.std.specs.Prelude.{ℕ, Bool, false, List, []}
 use Rattle.spec.specs.Text.{Text}
 use Rattle.spec.specs.Keys.{Pending, no_prefix}
 

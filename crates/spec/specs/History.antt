@@ -1,5 +1,5 @@
 -- Changes of the text, how a command ends, undo and redo.
-use Rattle.std.specs.Prelude.{ℕ, ◌+◌, Bool, true, false, cond, ◌&&◌, List, [], ◌∷◌, length, ◌==◌}
+use Rattle.std.specs.Prelude.{ℕ, ◌+◌, false, cond, ◌&&◌, List, [], ◌∷◌, length, ◌==◌}
 use Rattle.spec.specs.Text.{Text, part, replaced, column, clamp}
 use Rattle.spec.specs.Editor.{Change, UndoUnit, Ed, with_text, with_cursor, with_kept_column, with_inserting, with_history, with_command, with_last_keys, with_changes, no_command_yet}
 

@@ -1,5 +1,5 @@
 -- Where motions lead from a place in a text, and which bytes an operator then takes.
-use Rattle.std.specs.Prelude.{ℕ, zero, suc, ◌+◌, ◌-◌, min, max, Bool, true, false, cond, not, ◌&&◌, ◌||◌, List, [], ◌∷◌, length, drop, ◌==◌, nat_le, nat_lt}
+use Rattle.std.specs.Prelude.{ℕ, zero, suc, ◌+◌, ◌-◌, min, max, Bool, true, false, cond, not, ◌&&◌, [], ◌∷◌, length, drop, ◌==◌, nat_le, nat_lt}
 use Rattle.std.proofs.Math.Option.{Option, some, none}
 use Rattle.spec.specs.Bytes.{is_newline, is_white, class, same_class}
 use Rattle.spec.specs.Text.{Text, byte, part, skip_forward, skip_back, line_end, line_start, column, line_of, line_count, nth_line, last_in_line, at_column, first_nonblank, clamp}

@@ -1,5 +1,5 @@
 -- What the screen shows of an editor.
-use Rattle.std.specs.Prelude.{ℕ, zero, suc, ◌+◌, ◌-◌, ◌/◌, ◌%◌, Bool, true, false, cond, List, [], ◌∷◌, ◌++◌, map, length, take, drop, replicate, ◌==◌, nat_lt}
+use Rattle.std.specs.Prelude.{ℕ, zero, suc, ◌+◌, ◌-◌, ◌/◌, ◌%◌, cond, List, [], ◌∷◌, ◌++◌, map, take, drop, replicate, ◌==◌, nat_lt}
 use Rattle.spec.specs.Bytes.{ascii, tab, space, is_printable}
 use Rattle.spec.specs.Text.{Text, part, line_end, column, line_of, line_count, nth_line}
 use Rattle.spec.specs.Editor.{Ed}

@@ -1,5 +1,5 @@
 -- What a terminal makes of the bytes that it gets.
-use Rattle.std.specs.Prelude.{ℕ, ◌+◌, ◌-◌, ◌*◌, min, Bool, true, false, cond, List, [], ◌∷◌, ◌++◌, length, take, replicate, ◌==◌, nat_lt, slice_index_or, slice_set}
+use Rattle.std.specs.Prelude.{ℕ, ◌+◌, ◌-◌, ◌*◌, min, cond, List, [], ◌∷◌, ◌++◌, length, take, replicate, ◌==◌, nat_lt, slice_index_or, slice_set}
 use Rattle.spec.specs.Bytes.{ascii, escape, is_digit, is_printable}
 use Rattle.spec.specs.Screen.{Row, blank}
 

@@ -1,6 +1,6 @@
 -- A text is bytes. Line ends part its lines; behind the last line end there is a line too, perhaps an empty one.
 -- A place is the number of bytes before it. Lines and columns are counted from 0.
-use Rattle.std.specs.Prelude.{ℕ, zero, suc, ◌+◌, ◌-◌, min, Bool, true, false, cond, not, List, [], ◌∷◌, ◌++◌, length, take, drop, nat_lt, slice_index_or, slice_range}
+use Rattle.std.specs.Prelude.{ℕ, zero, suc, ◌+◌, ◌-◌, min, Bool, cond, not, List, [], ◌∷◌, ◌++◌, length, take, drop, nat_lt, slice_index_or, slice_range}
 use Rattle.spec.specs.Bytes.{newline, is_newline, is_blank}
 
 abbrev pub Text : Type 0

@@ -1,5 +1,5 @@
 -- Worked keys: what some keys do to an example text, as statements. Each is named by its keys.
-use Rattle.std.specs.Prelude.{◌≡◌, ℕ, Bool, true, false, List, [], ◌∷◌, ◌++◌, codes}
+use Rattle.std.specs.Prelude.{◌≡◌, ℕ, List, [], ◌∷◌, ◌++◌, codes}
 use Prim.Native.String.{String}
 use Rattle.spec.specs.Bytes.{newline, escape, control_r}
 use Rattle.spec.specs.Text.{Text}

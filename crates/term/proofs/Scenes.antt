@@ -1,12 +1,12 @@
 -- What is known of the rows of a change.
-use Rattle.std.proofs.Common.{◌≡◌, ℕ, ◌+◌, ◌-◌, ◌<◌, ◌≤◌, Bool, List, [], ◌∷◌, ◌++◌, length, get_or, sym, refl, ap, ◌∙◌, subst, arith}
+use Rattle.std.proofs.Common.{◌≡◌, ℕ, ◌+◌, ◌<◌, ◌≤◌, Bool, List, [], ◌++◌, length, get_or, sym, refl, ap, ◌∙◌, subst, arith}
 use Rattle.std.proofs.ByRecursion.{All-get_or}
 use Rattle.spec.specs.Screen.{Row, Picture}
 use Rattle.terminals.specs.Sequences.{Printable}
 use Rattle.terminals.specs.Drawing.{Rectangle, Drawable, step_bytes, update_bytes, Updates}
 use Rattle.terminals.specs.Progress.{RowSent, row_cost}
 use Rattle.terminals.proofs.Rows.{row_width}
-use Rattle.terminals.proofs.Sending.{row_stays, row_updated}
+use Rattle.terminals.proofs.Sending.{row_updated}
 use Rattle.terminals.proofs.Mixed.{differs_cost}
 use Rattle.term.specs.Scene.{Scene, Redrawable}
 use Rattle.term_rows.specs.Shortest.{Shortest}

@@ -1,6 +1,5 @@
 -- The rows above the last, one turn of the loop after another.
-use Rattle.std.proofs.Common.{◌≡◌, ℕ, ◌+◌, ◌-◌, ◌*◌, ◌<◌, ◌≤◌, Bool, List, [], ◌∷◌, ◌++◌, length, get_or, Option, sym, refl, ap, ◌∙◌, subst, mul-le-mul_right, add-mul, one-mul, arith}
-use Rattle.spec.specs.Screen.{Row, Picture}
+use Rattle.std.proofs.Common.{◌≡◌, ℕ, ◌+◌, ◌*◌, ◌<◌, ◌≤◌, List, length, Option, ap, ◌∙◌, subst, mul-le-mul_right, add-mul, one-mul, arith}
 use Rattle.spec.specs.Promises.{cost}
 use Rattle.terminals.specs.Progress.{RowSent, row_cost, pending_from, visited, Sent}
 use Rattle.terminals.proofs.Sending.{sent_row, sent_same, row_refused}

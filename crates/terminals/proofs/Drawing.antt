@@ -1,9 +1,9 @@
 -- What is sent as steps from one picture to another.
-use Rattle.std.proofs.Common.{◌≡◌, ℕ, ◌+◌, ◌-◌, ◌<◌, ◌≤◌, List, [], ◌∷◌, ◌++◌, length, get_or, take, drop, set, replicate, sym, refl, ap, ◌∙◌, subst, append_assoc, arith}
+use Rattle.std.proofs.Common.{◌≡◌, ℕ, ◌+◌, ◌-◌, List, [], ◌++◌, length, get_or, take, set, replicate, sym, refl, ap, ◌∙◌, subst}
 use Rattle.spec.specs.Screen.{Row, Picture, blank}
 use Rattle.spec.specs.Terminal.{Phase, Terminal, ground, feed}
 use Rattle.spec.specs.Promises.{Shows, Draws}
-use Rattle.terminals.specs.Sequences.{Printable, move_bytes, clear_bytes, overwritten}
+use Rattle.terminals.specs.Sequences.{move_bytes, clear_bytes, overwritten}
 use Rattle.terminals.specs.Drawing.{showing, Moves, Runs, Clears, InSequence, NothingToSend}
 use Rattle.terminals.proofs.Feeds.{terminal, resting, feed_append, feed_move, feed_run, feed_clear}
 

@@ -1,9 +1,9 @@
 -- What a terminal makes of a move, a run of printable bytes, a clear, and a byte that ends a sequence.
-use Rattle.std.proofs.Common.{◌≡◌, ℕ, zero, suc, ◌+◌, ◌-◌, ◌*◌, ◌/◌, ◌%◌, ◌<◌, ◌≤◌, min, Bool, true, false, cond, ◌&&◌, eqb, ltb, leb, ◌⊎◌, List, [], ◌∷◌, ◌++◌, length, get_or, take, drop, set, replicate, sym, refl, ap, ◌∙◌, subst, inl, inr, ⊎_elim, append_assoc, add-zero, add-one, arith, length-append, length-drop, length-set, length-take}
+use Rattle.std.proofs.Common.{◌≡◌, ℕ, suc, ◌+◌, ◌-◌, ◌<◌, ◌≤◌, min, true, leb, List, [], ◌∷◌, ◌++◌, length, get_or, take, drop, set, replicate, sym, refl, ap, ◌∙◌, ⊎_elim, append_assoc, add-zero, arith, length-append, length-set}
 use lib.ListN.{length-replicate}
 use Rattle.std.proofs.lemmas.List.{take_more_set, drop-set-lt, set-set, get_or-set_same, take-append-drop, length-take-le, set-get_or, take_at, replicate-append-replicate}
-use Rattle.std.proofs.lemmas.Bool.{lt-ltb, le-leb, ne_eqb, leb-true, and_parts, and_from, cases_eq, eq-eqb}
-use Rattle.spec.specs.Bytes.{ascii, escape, is_digit, is_printable, cancel_sequence}
+use Rattle.std.proofs.lemmas.Bool.{lt-ltb, le-leb, ne_eqb, leb-true, and_parts, cases_eq, eq-eqb}
+use Rattle.spec.specs.Bytes.{ascii, escape, is_printable, cancel_sequence}
 use Rattle.spec.specs.Screen.{Row, blank, decimal}
 use Rattle.spec.specs.Terminal.{Phase, ground, escaped, first_number, second_number, Terminal, more_number, written, cleared_right, moved, granted, end_sequence, feed_byte, feed}
 use Rattle.terminals.specs.Sequences.{row_number, column_number, move_bytes, clear_bytes, Printable, overwritten}

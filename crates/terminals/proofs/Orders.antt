@@ -1,5 +1,5 @@
 -- The order of rows: the last one, then from the top, the cursor's row behind all others.
-use Rattle.std.proofs.Common.{◌≡◌, ℕ, zero, suc, ◌+◌, ◌<◌, ◌≤◌, Bool, true, false, cond, ◌&&◌, eqb, ltb, leb, sym, refl, ap, ◌∙◌, subst, arith}
+use Rattle.std.proofs.Common.{◌≡◌, ℕ, ◌+◌, ◌<◌, ◌≤◌, true, refl, arith}
 use Rattle.std.proofs.lemmas.Bool.Decides.{nat_tests}
 use Rattle.terminals.specs.Progress.{pending_from, visited, all_pending, none_pending}
 use Rattle.terminals.proofs.Mixed.{Same, Without}

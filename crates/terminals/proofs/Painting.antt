@@ -1,19 +1,19 @@
 -- Row after row on a terminal of which only the size is known.
-use Rattle.std.proofs.Common.{◌≡◌, ℕ, zero, suc, ◌+◌, ◌-◌, ◌*◌, ◌<◌, ◌≤◌, Bool, true, false, cond, ◌&&◌, eqb, leb, List, [], ◌∷◌, ◌++◌, length, get_or, take, drop, set, replicate, sym, refl, ap, ◌∙◌, subst, mul-le-mul_right, add-mul, one-mul, arith, length-append, length-take}
-use Rattle.std.proofs.lemmas.List.{append_assoc, drop_all}
+use Rattle.std.proofs.Common.{◌≡◌, ℕ, ◌+◌, ◌*◌, ◌<◌, ◌≤◌, Bool, List, [], ◌∷◌, ◌++◌, length, get_or, take, set, sym, ap, ◌∙◌, subst, mul-le-mul_right, add-mul, one-mul, arith, length-take}
+use Rattle.std.proofs.lemmas.List.{append_assoc}
 use Rattle.std.proofs.lemmas.Bool.Decides.{nat_tests}
 use Rattle.spec.specs.Bytes.{cancel_sequence}
-use Rattle.spec.specs.Screen.{Row, Picture, blank}
+use Rattle.spec.specs.Screen.{Row, Picture}
 use Rattle.spec.specs.Terminal.{Terminal, feed}
 use Rattle.spec.specs.Promises.{Shows, Draws, Sized, Paints, paint_cost}
-use Rattle.terminals.specs.Sequences.{Printable, move_bytes, clear_bytes}
-use Rattle.terminals.specs.Drawing.{showing, Rectangle, Drawable, TurnsRow, step_bytes, Updates, update_bytes}
-use Rattle.terminals.specs.Progress.{mixed, all_pending, none_pending}
+use Rattle.terminals.specs.Sequences.{Printable, move_bytes}
+use Rattle.terminals.specs.Drawing.{showing, Rectangle, Drawable, step_bytes, Updates, update_bytes}
+use Rattle.terminals.specs.Progress.{mixed}
 use Rattle.terminals.specs.Painting.{from_row, RowPainted, PaintSent, Painted, RepaintDone}
 use Rattle.terminals.proofs.Feeds.{resting, feed_append, feed_cancel}
-use Rattle.terminals.proofs.Drawing.{draws_append, draws_none, draws_move, shows_itself}
+use Rattle.terminals.proofs.Drawing.{draws_move, shows_itself}
 use Rattle.terminals.proofs.Rows.{row_width, draws_step, turns_row}
-use Rattle.terminals.proofs.Mixed.{Same, Without, mixed_same, mixed_all, mixed_none, mixed_at, mixed_set, mixed_rectangle}
+use Rattle.terminals.proofs.Mixed.{mixed_all, mixed_none, mixed_at, mixed_set, mixed_rectangle}
 use Rattle.terminals.proofs.Sending.{take_of_length}
 
 sized_rectangle : {t : Terminal} {rows columns : ℕ} → Sized t rows columns → Rectangle rows columns t.grid

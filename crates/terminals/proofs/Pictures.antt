@@ -1,16 +1,15 @@
 -- What an editor's screen shows can be drawn.
-use Rattle.std.proofs.Common.{◌≡◌, ℕ, zero, suc, ◌+◌, ◌-◌, ◌/◌, ◌%◌, ◌<◌, ◌≤◌, Bool, true, false, cond, ◌&&◌, eqb, ltb, leb, ◌⊎◌, List, [], ◌∷◌, ◌++◌, map, length, get_or, take, drop, replicate, sym, refl, ap, ◌∙◌, subst, inl, inr, ⊎_elim, arith, length-append, length-take}
+use Rattle.std.proofs.Common.{◌≡◌, ℕ, zero, suc, ◌+◌, ◌-◌, ◌/◌, ◌%◌, ◌<◌, ◌≤◌, true, cond, eqb, ltb, leb, List, [], ◌∷◌, ◌++◌, map, length, replicate, refl, ap, ◌∙◌, ⊎_elim, arith, length-append, length-take}
 use lib.ListN.{length-replicate}
 use Rattle.std.specs.List.{AllByRecursion as All}
 use Rattle.std.proofs.ByRecursion.{All-append, All-take}
-use Rattle.std.proofs.lemmas.Bool.{cases_Bool, cases_lt, lt-ltb, le-ltb, le-leb, and_from, cond_both}
+use Rattle.std.proofs.lemmas.Bool.{cases_lt, lt-ltb, le-ltb, le-leb, and_from, cond_both}
 use Rattle.spec.specs.Bytes.{ascii, tab, is_printable}
-use Rattle.spec.specs.Text.{Text, part, line_end, line_count, nth_line, line_of, column}
+use Rattle.spec.specs.Text.{line_count, line_of, column}
 use Rattle.spec.specs.Editor.{Ed}
-use Rattle.spec.specs.Screen.{Row, Picture, blank, shown, fitted, text_row, digits_before, decimal, status_row, text_rows, picture}
-use Rattle.spec.specs.Promises.{Sees}
+use Rattle.spec.specs.Screen.{Row, blank, shown, fitted, text_row, digits_before, decimal, status_row, text_rows, picture}
 use Rattle.terminals.specs.Sequences.{Printable}
-use Rattle.terminals.specs.Drawing.{Rectangle, Drawable, PicturesDrawable}
+use Rattle.terminals.specs.Drawing.{PicturesDrawable}
 
 abbrev Shown : ℕ → Type 0
 Shown c = is_printable c ≡ true

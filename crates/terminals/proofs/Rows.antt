@@ -1,13 +1,12 @@
 -- One row turned from what stood there to what shall stand there.
-use Rattle.std.proofs.Common.{◌≡◌, ℕ, ◌+◌, ◌-◌, ◌<◌, ◌≤◌, Bool, true, false, cond, ◌&&◌, eqb, ◌⊎◌, List, [], ◌∷◌, ◌++◌, length, get_or, take, drop, set, replicate, MatchBool, sym, refl, ap, ◌∙◌, subst, inl, inr, ⊎_elim, append_assoc, arith, length-append, length-drop, take-add}
-use Rattle.std.specs.List.{AllByRecursion as All}
+use Rattle.std.proofs.Common.{◌≡◌, ℕ, ◌+◌, ◌-◌, ◌<◌, ◌≤◌, Bool, true, false, cond, ◌&&◌, eqb, List, [], ◌++◌, length, get_or, take, drop, set, replicate, sym, ap, ◌∙◌, subst, ⊎_elim, append_assoc, arith, length-append, length-drop, take-add}
 use Rattle.std.proofs.lemmas.List.{take-append-drop, take_at, length-take-le, get_or-set_same, set-set}
 use Rattle.std.proofs.ByRecursion.{All-get_or, All-take, All-drop}
 use Rattle.std.proofs.lemmas.Bool.{cases_Bool, and_parts, eqb-true}
 use Rattle.spec.specs.Screen.{Row, Picture, blank}
 use Rattle.spec.specs.Bytes.{is_printable}
 use Rattle.spec.specs.Promises.{Draws}
-use Rattle.terminals.specs.Sequences.{Printable, move_bytes, clear_bytes, overwritten}
+use Rattle.terminals.specs.Sequences.{Printable, clear_bytes, overwritten}
 use Rattle.terminals.specs.Drawing.{showing, Rectangle, TurnsRow, step_bytes, Updates, update_bytes}
 use Rattle.terminals.proofs.Drawing.{draws_append, draws_none, draws_move, draws_run, draws_clear}
 

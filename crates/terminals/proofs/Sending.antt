@@ -1,12 +1,11 @@
 -- What was sent so far, row by row.
-use Rattle.std.proofs.Common.{◌≡◌, ℕ, zero, suc, ◌+◌, ◌-◌, ◌<◌, ◌≤◌, Bool, true, false, cond, ◌&&◌, eqb, List, [], ◌∷◌, ◌++◌, length, get_or, take, drop, set, sym, refl, ap, ◌∙◌, subst, arith, length-append, length-take}
+use Rattle.std.proofs.Common.{◌≡◌, ℕ, zero, suc, ◌+◌, ◌<◌, ◌≤◌, Bool, true, List, [], ◌∷◌, ◌++◌, length, get_or, take, set, sym, refl, ap, ◌∙◌, subst, arith, length-append, length-take}
 use Rattle.std.proofs.lemmas.List.{append_assoc, append-nil, set-get_or, nil_from_length}
 use Rattle.std.proofs.lemmas.Bool.{eq-eqb}
 use Rattle.spec.specs.Screen.{Row, Picture}
-use Rattle.spec.specs.Terminal.{Terminal, feed}
-use Rattle.spec.specs.Promises.{Shows, Draws, rows_cost, cost}
-use Rattle.terminals.specs.Sequences.{Printable, move_bytes, clear_bytes}
-use Rattle.terminals.specs.Drawing.{showing, Rectangle, Drawable, TurnsRow, step_bytes, Updates, update_bytes}
+use Rattle.spec.specs.Promises.{Draws, rows_cost, cost}
+use Rattle.terminals.specs.Sequences.{Printable}
+use Rattle.terminals.specs.Drawing.{showing, Rectangle, Drawable, step_bytes, Updates, update_bytes}
 use Rattle.terminals.specs.Progress.{row_cost, mixed, pending_cost, all_pending, none_pending, RowSent, Sent, Drawn, RedrawDone}
 use Rattle.terminals.proofs.Drawing.{draws_append, draws_none, draws_nothing}
 use Rattle.terminals.proofs.Rows.{row_width, draws_step, turns_row}

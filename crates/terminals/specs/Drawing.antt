@@ -1,5 +1,5 @@
 -- Bytes that lead from one picture to another, row by row.
-use Rattle.std.specs.Prelude.{◌≡◌, ℕ, zero, suc, ◌+◌, ◌-◌, ◌<◌, ◌≤◌, Bool, true, false, cond, ◌&&◌, List, [], ◌∷◌, ◌++◌, length, take, drop, replicate, MatchBool, ◌==◌, slice_index_or, slice_range, slice_set}
+use Rattle.std.specs.Prelude.{◌≡◌, ℕ, ◌+◌, ◌-◌, ◌<◌, ◌≤◌, Bool, cond, ◌&&◌, List, [], ◌++◌, length, take, drop, replicate, MatchBool, ◌==◌, slice_index_or, slice_range, slice_set}
 use Rattle.std.specs.List.{AllByRecursion as All}
 use Rattle.spec.specs.Editor.{Ed}
 use Rattle.spec.specs.Screen.{Row, Picture, blank, picture}

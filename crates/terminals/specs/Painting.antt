@@ -1,5 +1,5 @@
 -- Drawing a whole picture on a terminal of which only the size is known.
-use Rattle.std.specs.Prelude.{◌≡◌, ℕ, ◌+◌, ◌<◌, ◌≤◌, Bool, List, ◌++◌, length, take, Some, None, Option, nat_le}
+use Rattle.std.specs.Prelude.{◌≡◌, ℕ, ◌<◌, ◌≤◌, Bool, List, ◌++◌, length, take, Some, None, Option, nat_le}
 use Rattle.spec.specs.Screen.{Row, Picture}
 use Rattle.spec.specs.Terminal.{Terminal, feed}
 use Rattle.spec.specs.Promises.{Shows, Sized, Paints, paint_cost}

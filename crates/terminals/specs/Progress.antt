@@ -1,8 +1,8 @@
 -- Drawing on the way: some rows are still pending, the others were sent.
-use Rattle.std.specs.Prelude.{◌≡◌, ℕ, zero, suc, ◌+◌, ◌<◌, ◌≤◌, Bool, true, false, cond, List, [], ◌∷◌, ◌++◌, length, take, Some, None, Option, ◌==◌, nat_le, nat_lt}
+use Rattle.std.specs.Prelude.{◌≡◌, ℕ, suc, ◌+◌, ◌<◌, ◌≤◌, Bool, true, false, cond, List, [], ◌∷◌, ◌++◌, length, take, Some, None, Option, ◌==◌, nat_le, nat_lt}
 use Rattle.spec.specs.Screen.{Row, Picture}
 use Rattle.spec.specs.Promises.{Draws, same_row, rows_cost, cost}
-use Rattle.terminals.specs.Drawing.{showing, Rectangle, TurnsRow}
+use Rattle.terminals.specs.Drawing.{showing, TurnsRow}
 
 -- what a row may cost
 abbrev pub row_cost : ℕ → Row → Row → ℕ

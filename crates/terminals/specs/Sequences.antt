@@ -1,5 +1,5 @@
 -- What is sent: the bytes of a cursor move and of a clear.
-use Rattle.std.specs.Prelude.{◌≡◌, ℕ, ◌+◌, Bool, true, false, cond, List, [], ◌∷◌, ◌++◌, length, take, drop, ◌==◌}
+use Rattle.std.specs.Prelude.{◌≡◌, ℕ, ◌+◌, true, cond, List, [], ◌∷◌, ◌++◌, length, take, drop, ◌==◌}
 use Rattle.std.specs.List.{AllByRecursion as All}
 use Rattle.spec.specs.Bytes.{ascii, escape, is_printable}
 use Rattle.spec.specs.Screen.{Row, decimal}

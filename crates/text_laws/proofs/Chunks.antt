@@ -1,10 +1,9 @@
 -- A scan goes on chunk by chunk: what passes in the bytes of a range passes in the text.
-use Rattle.std.proofs.Common.{◌≡◌, ℕ, zero, suc, ◌+◌, ◌-◌, ◌<◌, ◌≤◌, min, true, false, length, get_or, take, drop, sym, refl, ap, ◌∙◌, ⊎_elim, arith, length-drop, length-take, get_or-drop, get_or-take}
-use Rattle.std.proofs.lemmas.Bool.{cases_lt}
+use Rattle.std.proofs.Common.{◌≡◌, ℕ, zero, suc, ◌+◌, ◌-◌, ◌<◌, ◌≤◌, true, false, length, get_or, take, drop, sym, ap, ◌∙◌, arith, length-drop, length-take, get_or-drop, get_or-take}
 use Rattle.std.proofs.lemmas.List.{get_or_default}
 use Rattle.spec.specs.Bytes.{newline}
 use Rattle.spec.specs.Text.{Text, byte}
-use Rattle.text_laws.specs.Scans.{before, Test, Forward, Backward, prior, Front, Back}
+use Rattle.text_laws.specs.Scans.{before, Test, prior, Front, Back}
 
 -- n bytes of a text from a place on
 module _ (t : Text) (a n : ℕ) (fits : a + n ≤ length t) where

@@ -1,11 +1,11 @@
 -- Lines by their numbers: where a line ends is known from where the next one begins.
-use Rattle.std.proofs.Common.{◌≡◌, ℕ, zero, suc, ◌+◌, ◌-◌, ◌<◌, ◌≤◌, min, true, false, cond, length, sym, ap, ◌∙◌, ⊎_elim, add-one, arith}
-use Rattle.std.proofs.lemmas.Bool.{cases_lt, cond-false, not_from_true, not-false, cases_Bool}
+use Rattle.std.proofs.Common.{◌≡◌, ℕ, zero, suc, ◌+◌, ◌-◌, ◌<◌, ◌≤◌, min, false, length, sym, ap, ◌∙◌, ⊎_elim, add-one, arith}
+use Rattle.std.proofs.lemmas.Bool.{cases_lt, cond-false, not_from_true, cases_Bool}
 use Rattle.spec.specs.Bytes.{is_newline}
 use Rattle.spec.specs.Text.{Text, byte, is_in_line, line_end, line_start, newlines, line_of, line_count, nth_line, first_nonblank}
 use Rattle.spec.specs.Motions.{linewise, target, to_line}
 use Rattle.laws.proofs.TextLines.{line_end_within_line, line_start_is, line_start_down, line_end_up, line_end_within, line_start_behind, nth_line_within, nth_line_start}
-use Rattle.laws.proofs.TextCounts.{line_of_suc, line_of_end, line_of_within, line_of_behind, line_of_last, line_of_nth_line, nth_line_line_of, line_start_unique}
+use Rattle.laws.proofs.TextCounts.{line_of_suc, line_of_within, line_of_behind, line_of_last, line_of_nth_line, nth_line_line_of, line_start_unique}
 
 -- p is the first place with n line ends before it
 pub record FirstInLine (t : Text) (n p : ℕ) : Type 0 where

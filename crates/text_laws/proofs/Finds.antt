@@ -1,10 +1,9 @@
 -- Bytes found in a line by scans.
-use Rattle.std.proofs.Common.{◌≡◌, ℕ, zero, suc, ◌+◌, ◌-◌, ◌<◌, ◌≤◌, Bool, true, false, cond, not, ◌||◌, eqb, [], ◌∷◌, length, take, drop, sym, refl, ap, ◌∙◌, subst, ⊎_elim, arith, drop-cons}
-use mathlib.Core.Option.{Option, some, none}
+use Rattle.std.proofs.Common.{◌≡◌, ℕ, zero, suc, ◌+◌, ◌-◌, ◌<◌, ◌≤◌, true, false, eqb, ◌∷◌, length, sym, ap, ◌∙◌, subst, ⊎_elim, arith, drop-cons}
+use mathlib.Core.Option.{some, none}
 use Rattle.std.proofs.lemmas.Bool.{cond-true, cond-false, cases_lt, or_parts, or_cases, not-true, not-false, eq-eqb, ne_eqb, true≢false, not_from_false, not_from_true}
-use Rattle.std.proofs.lemmas.List.{get_or_past}
 use Rattle.spec.specs.Bytes.{newline, is_newline}
-use Rattle.spec.specs.Text.{Text, byte, part, is_in_line, line_end, line_start}
+use Rattle.spec.specs.Text.{Text, byte, part, is_in_line, line_end}
 use Rattle.spec.specs.Motions.{inclusive, target, nth_found, find_in_line, found_by}
 use Rattle.laws.proofs.TextLines.{Pass, at_line_end, line_end_is, line_end_within_line, line_start_down, line_end_up, in_text, before_line_end, line_end_within}
 use Rattle.laws.proofs.TextMotions.{Each, Between, find_in_line_between}

@@ -1,4 +1,4 @@
-use Rattle.std.proofs.Common.{◌≡◌, ◌<◌, length, set, refl, ap, ◌∙◌, arith, length-set, rules}
+use Rattle.std.proofs.Common.{◌≡◌, length, set, refl, ap, ◌∙◌, arith, length-set}
 use Rattle.cells.specs.Layout.{cleared}
 use Rattle.cells.proofs.Rows.{clear_more}
 use Rattle.cells.proofs.header.clear.Goals as goal

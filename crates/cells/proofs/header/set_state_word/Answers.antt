@@ -1,4 +1,4 @@
-use Rattle.std.proofs.Common.{◌≡◌, rules}
+use Rattle.std.proofs.Common.{rules}
 use Rattle.cells.proofs.Rows.{state_set}
 use Rattle.cells.proofs.Headers.{stays}
 use Rattle.cells.proofs.header.set_state_word.Goals as goal

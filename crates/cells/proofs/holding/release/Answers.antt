@@ -1,5 +1,5 @@
 use Rattle.std.proofs.Common.{◌≡◌, arith, rules}
-use Rattle.cells.specs.Layout.{at, put, with_dead}
+use Rattle.cells.specs.Layout.{put, with_dead}
 use Rattle.cells.proofs.Sharings.{held_count, released_none, released_live, released_dead, kept_same, kept_put, kept_dead}
 use Rattle.cells.proofs.holding.release.Goals as goal
 

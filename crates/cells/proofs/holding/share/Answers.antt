@@ -1,5 +1,4 @@
 use Rattle.std.proofs.Common.{arith, rules}
-use Rattle.cells.specs.Layout.{at}
 use Rattle.cells.proofs.Sharings.{count_fits, shared_none, shared_some, kept_same, kept_put}
 use Rattle.cells.proofs.holding.share.Goals as goal
 

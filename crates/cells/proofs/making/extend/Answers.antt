@@ -1,5 +1,5 @@
-use Rattle.std.proofs.Common.{◌≡◌, ◌+◌, ◌*◌, ◌≤◌, length, sym, ap, ◌∙◌, arith, rules}
-use Rattle.cells.specs.Layout.{at, put, filled}
+use Rattle.std.proofs.Common.{◌≡◌, ◌+◌, ◌*◌, ◌≤◌, length, arith, rules}
+use Rattle.cells.specs.Layout.{put, filled}
 use Rattle.cells.proofs.Sharings.{kept_same}
 use Rattle.cells.proofs.Extends.{extended, kept_extend}
 use Rattle.cells.proofs.Reaches.{counting}

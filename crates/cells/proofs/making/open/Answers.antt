@@ -1,6 +1,6 @@
 use Rattle.std.proofs.Common.{◌≡◌, drop, rules}
-use Rattle.cells.specs.Layout.{at, cell}
-use Rattle.cells.specs.Steps.{Kept, Sharing, Shared}
+use Rattle.cells.specs.Layout.{cell}
+use Rattle.cells.specs.Steps.{Kept, Shared}
 use Rattle.cells.proofs.Sharings.{kept_on}
 use Rattle.cells.proofs.Openings.{open_within, share_right, share_left, release_node, opened}
 use Rattle.cells.proofs.making.open.Goals as goal

@@ -1,4 +1,4 @@
-use Rattle.std.proofs.Common.{sym, subst, rules}
+use Rattle.std.proofs.Common.{sym, subst}
 use Rattle.cells.specs.Have.{Lent}
 use Rattle.cells.proofs.Held.{lend_left}
 use Rattle.cells.proofs.Openings.{read_within}

@@ -1,4 +1,4 @@
-use Rattle.std.proofs.Common.{get_or, take, arith, rules}
+use Rattle.std.proofs.Common.{get_or, take}
 use Rattle.std.proofs.lemmas.List.{take_more, take_all}
 use Rattle.pictures.proofs.Rows.{printable_push, printable_between}
 use Rattle.pictures.proofs.shot.printable.Goals as goal

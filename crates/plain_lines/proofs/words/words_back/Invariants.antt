@@ -1,4 +1,4 @@
-use Rattle.std.proofs.Common.{◌≤◌, length}
+use Rattle.std.proofs.Common.{◌≤◌}
 use Rattle.plain_lines.proofs.words.words_back.Given as goal
 
 abbrev pub invariant-loop : goal.invariant-loop

@@ -1,4 +1,4 @@
-use Rattle.std.proofs.Common.{◌≡◌, arith}
+use Rattle.std.proofs.Common.{arith}
 use Rattle.cells.specs.Steps.{Kept}
 use Rattle.ropes.proofs.Depths.{height_low}
 use Rattle.ropes.proofs.Joins.{inner_whole}

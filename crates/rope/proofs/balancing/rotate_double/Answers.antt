@@ -1,4 +1,3 @@
-use Rattle.std.proofs.Common.{rules}
 use Rattle.cells.proofs.Sharings.{kept_on}
 use Rattle.rope.proofs.Doubles.{parts, double_opening, double_first, double_second, double_couple, doubled}
 use Rattle.rope.proofs.balancing.rotate_double.Goals as goal

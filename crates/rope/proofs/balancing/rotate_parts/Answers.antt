@@ -1,6 +1,5 @@
 use Rattle.cells.specs.Steps.{Kept}
 use Rattle.cells.proofs.Sharings.{kept_on}
-use Rattle.std.proofs.Common.{◌≡◌}
 use Rattle.rope.proofs.Rotates.{second_some, third_some, single_two, single_couple, single, double_three, twice}
 use Rattle.rope.proofs.balancing.rotate_parts.Goals as goal
 

@@ -1,4 +1,4 @@
-use Rattle.std.proofs.Common.{◌≡◌, ◌+◌, ◌<◌, ◌≤◌, ◌≢◌, sym, refl, arith}
+use Rattle.std.proofs.Common.{◌≡◌, ◌+◌, ◌<◌, ◌≤◌, ◌≢◌, refl, arith}
 use Rattle.cells.specs.Steps.{Kept}
 use Rattle.cells.proofs.Sharings.{kept_same, kept_on}
 use Rattle.rope.proofs.Splits.{cuts_zero, cuts_all, sized_lends, sized_leaf, cuts_leaf, sized_node, cuts_node, inside_children, inside_opening, middle_bounds, left_one, left_beside, left_some, left_holding, left_none, right_one, right_beside, right_some, right_holding, right_none}

@@ -1,4 +1,3 @@
-use Rattle.std.proofs.Common.{◌≡◌}
 use Rattle.rope.proofs.Cuttings.{pairs_left, pairs_right}
 use Rattle.rope.proofs.cutting.pair_up.Goals as goal
 

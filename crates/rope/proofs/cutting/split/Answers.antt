@@ -1,4 +1,3 @@
-use Rattle.std.proofs.Common.{◌≡◌}
 use Rattle.cells.specs.Steps.{Kept}
 use Rattle.rope.proofs.Splits.{short_lends, short_sized, splits}
 use Rattle.rope.proofs.cutting.split.Goals as goal

@@ -1,4 +1,4 @@
-use Rattle.std.proofs.Common.{◌≡◌, ◌+◌, ◌-◌, ◌≤◌, drop, arith, length-take, rules}
+use Rattle.std.proofs.Common.{◌+◌, ◌-◌, ◌≤◌, drop, arith, length-take, rules}
 use Rattle.cells.specs.Steps.{Kept}
 use Rattle.cells.proofs.Sharings.{kept_on}
 use Rattle.rope.proofs.Cuttings.{cut_leaf, cut_bounds, cut_front, cut_back, cut_free, cut_free_second, cut_pairing, leaf_cuts}

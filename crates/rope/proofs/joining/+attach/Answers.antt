@@ -2,7 +2,7 @@ use Rattle.std.proofs.Common.{◌≡◌, true, false, ◌≢◌, sym, arith}
 use Rattle.cells.specs.Steps.{Kept}
 use Rattle.cells.proofs.Sharings.{kept_on}
 use Rattle.rope_cells.specs.Lending.{beside}
-use Rattle.rope.proofs.Attaches.{host_some, guest_some, guest_low, onto_leaves, attached_leaf, onto_node, attached_node, Hosts, hosts, host_opening, host_fuel, inner_two, outer_two, outer_holding, attached_some, attached_none, attached_inside}
+use Rattle.rope.proofs.Attaches.{host_some, guest_some, guest_low, onto_leaves, attached_leaf, onto_node, attached_node, hosts, host_opening, host_fuel, inner_two, outer_two, outer_holding, attached_some, attached_none, attached_inside}
 use Rattle.rope.proofs.joining.+attach.Goals as goal
 
 pub shapes_of-s-requires : goal.shapes_of-s-requires

@@ -1,4 +1,4 @@
-use Rattle.std.proofs.Common.{◌≡◌, Some, None}
+use Rattle.std.proofs.Common.{Some}
 use Rattle.rope.specs.Building.{Couple}
 use Rattle.rope.proofs.Makings.{couple_two, couples_both, couples_left, couples_right}
 use Rattle.rope.proofs.making.both_on.Goals as goal

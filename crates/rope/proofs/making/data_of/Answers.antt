@@ -1,6 +1,5 @@
-use Rattle.std.proofs.Common.{◌≡◌, arith, rules}
+use Rattle.std.proofs.Common.{arith, rules}
 use Rattle.rope_cells.specs.Lending.{LendsSome, SummaryIs}
-use Rattle.rope.specs.Building.{Two, Fit}
 use Rattle.rope.proofs.Makings.{left_some, right_some, children_data, heights_low, sums_addable}
 use Rattle.rope.proofs.making.data_of.Goals as goal
 

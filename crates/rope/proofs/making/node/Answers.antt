@@ -1,4 +1,3 @@
-use Rattle.std.proofs.Common.{◌≡◌}
 use Rattle.cells.specs.Steps.{Kept}
 use Rattle.rope.proofs.Makings.{node_placed}
 use Rattle.rope.proofs.making.node.Goals as goal

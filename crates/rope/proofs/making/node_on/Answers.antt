@@ -1,6 +1,4 @@
-use Rattle.std.proofs.Common.{◌≡◌}
-use Rattle.rope.specs.Building.{Fit}
-use Rattle.rope.proofs.Makings.{two_swap, fit_swap, node_left}
+use Rattle.rope.proofs.Makings.{node_left}
 use Rattle.rope.proofs.making.node_on.Goals as goal
 
 pub returns-in-Left : goal.returns-in-Left

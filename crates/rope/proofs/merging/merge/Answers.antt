@@ -1,4 +1,4 @@
-use Rattle.std.proofs.Common.{◌≡◌, ◌+◌, ◌-◌, ◌≤◌, true, false, length, take, sym, refl, ap, ◌∙◌, arith, length-append, rules}
+use Rattle.std.proofs.Common.{◌≡◌, ◌+◌, ◌-◌, ◌≤◌, true, false, length, take, sym, ap, ◌∙◌, arith, length-append, rules}
 use Rattle.cells.specs.Steps.{Kept}
 use Rattle.cells.proofs.Sharings.{kept_on}
 use Rattle.rope.specs.Merging.{stays}

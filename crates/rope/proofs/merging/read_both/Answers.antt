@@ -1,4 +1,4 @@
-use Rattle.std.proofs.Common.{◌≡◌, arith, rules}
+use Rattle.std.proofs.Common.{arith, rules}
 use Rattle.rope_cells.specs.Leaves.{LendsLeaf, LeafIs}
 use Rattle.rope.proofs.Merges.{left_leaf, right_leaf, both_are}
 use Rattle.rope.proofs.merging.read_both.Goals as goal

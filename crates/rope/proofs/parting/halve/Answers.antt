@@ -1,4 +1,3 @@
-use Rattle.std.proofs.Common.{◌≡◌, rules}
 use Rattle.rope.proofs.Partings.{halved_right, halved_left}
 use Rattle.rope.proofs.parting.halve.Goals as goal
 

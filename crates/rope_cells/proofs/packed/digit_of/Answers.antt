@@ -1,4 +1,4 @@
-use Rattle.std.proofs.Common.{◌≡◌, ◌/◌, ◌%◌, ◌^◌, ap, ◌∙◌, arith}
+use Rattle.std.proofs.Common.{◌≡◌, ◌/◌, ◌%◌, ap, ◌∙◌, arith}
 use Rattle.ropes.specs.Layout.{digit}
 use Rattle.ropes.proofs.Packs.{divided_none, divided_more, digit_is}
 use Rattle.rope_cells.proofs.packed.digit_of.Goals as goal

@@ -1,4 +1,4 @@
-use Rattle.std.proofs.Common.{◌≡◌, ℕ, ◌<◌, ◌≤◌, ◌≢◌, length, get_or, set, refl, ◌∙◌, arith, length-set, below_more}
+use Rattle.std.proofs.Common.{◌<◌, ◌≢◌, length, refl, ◌∙◌, arith, length-set, below_more}
 use Rattle.std.proofs.lemmas.List.{get_or-set_same, get_or-set_other}
 use Rattle.rope_cells.proofs.Packings.{zeros, sums_back}
 use Rattle.rope_cells.proofs.packed.leaf_sums.Goals as goal

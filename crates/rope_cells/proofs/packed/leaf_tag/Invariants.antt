@@ -1,4 +1,4 @@
-use Rattle.std.proofs.Common.{◌≡◌, ◌≤◌, drop}
+use Rattle.std.proofs.Common.{◌≡◌, drop}
 use Rattle.ropes.specs.Layout.{pack}
 use Rattle.rope_cells.proofs.packed.leaf_tag.Given as goal
 

@@ -1,5 +1,4 @@
-use Rattle.std.proofs.Common.{◌≡◌, ℕ, ◌+◌, ◌<◌, ◌≤◌, ◌≢◌, length, get_or, set, sym, refl, ap, ◌∙◌, arith, length-set, below_more}
-use Rattle.std.proofs.lemmas.List.{get_or-set_same, get_or-set_other}
+use Rattle.std.proofs.Common.{arith}
 use Rattle.ropes.specs.Layout.{node_tag}
 use Rattle.rope_cells.proofs.Packings.{node_data_is}
 use Rattle.rope_cells.proofs.packed.node_data.Goals as goal

@@ -1,4 +1,3 @@
-use Rattle.std.proofs.Common.{◌≡◌}
 use Rattle.ropes.specs.Layout.{word_at}
 use Rattle.rope_cells.proofs.packed.pack_word.Goals as goal
 

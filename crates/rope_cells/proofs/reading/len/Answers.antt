@@ -1,4 +1,4 @@
-use Rattle.std.proofs.Common.{sym, ◌∙◌, rules}
+use Rattle.std.proofs.Common.{sym, ◌∙◌}
 use Rattle.ropes.specs.Rope.{bytes}
 use Rattle.ropes.proofs.Cuts.{size_bytes}
 use Rattle.ropes.proofs.Sums.{sum_first}

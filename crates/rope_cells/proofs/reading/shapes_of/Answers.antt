@@ -1,4 +1,4 @@
-use Rattle.std.proofs.Common.{◌≡◌, rules}
+use Rattle.std.proofs.Common.{rules}
 use Rattle.rope_cells.specs.Lending.{LendsSome, ShapeIs}
 use Rattle.rope_cells.proofs.reading.shapes_of.Goals as goal
 

@@ -1,7 +1,7 @@
-use Rattle.std.proofs.Common.{◌≡◌, sym, subst, arith, rules}
+use Rattle.std.proofs.Common.{◌≡◌, rules}
 use Rattle.ropes.specs.Rope.{bytes}
 use Rattle.ropes.specs.Layout.{sums_of}
-use Rattle.rope_cells.specs.Lending.{LendsSome, LendsNode}
+use Rattle.rope_cells.specs.Lending.{LendsNode}
 use Rattle.rope_cells.proofs.Codes.{tag_high, summary_node, summary_leaf}
 use Rattle.rope_cells.proofs.reading.summary_of.Goals as goal
 

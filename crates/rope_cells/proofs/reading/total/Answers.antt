@@ -1,8 +1,7 @@
-use Rattle.std.proofs.Common.{◌≡◌, ◌+◌, ◌≢◌, sym, refl, arith, rules}
+use Rattle.std.proofs.Common.{◌+◌, ◌≢◌, sym, refl, arith, rules}
 use Rattle.std.proofs.lemmas.Bool.{eqb-true, eqb-false}
 use Rattle.cells.specs.Steps.{WordRead}
-use Rattle.rope_cells.specs.Lending.{Lends, LendsNode}
-use Rattle.rope_cells.proofs.Codes.{reading, node_some, lends_some, tag_high, sum_empty, sum_read, sum_leaf}
+use Rattle.rope_cells.proofs.Codes.{reading, lends_some, tag_high, sum_empty, sum_read, sum_leaf}
 use Rattle.rope_cells.proofs.reading.total.Goals as goal
 
 pub returns-then-is_none : goal.returns-then-is_none

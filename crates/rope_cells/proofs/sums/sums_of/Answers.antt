@@ -1,4 +1,3 @@
-use Rattle.std.proofs.Common.{◌≡◌}
 use Rattle.ropes.specs.Layout.{sums_of}
 use Rattle.rope_cells.proofs.sums.sums_of.Goals as goal
 

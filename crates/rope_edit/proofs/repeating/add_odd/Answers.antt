@@ -1,4 +1,3 @@
-use Rattle.std.proofs.Common.{◌≡◌}
 use Rattle.cells.proofs.Sharings.{kept_on}
 use Rattle.rope_edit.proofs.Repeats.{odd_sharing, odd_two, adds_once}
 use Rattle.rope_edit.proofs.repeating.add_odd.Goals as goal

@@ -1,12 +1,12 @@
-use Rattle.std.proofs.Common.{◌≡◌, ℕ, ◌+◌, ◌-◌, ◌<◌, ◌≤◌, ◌≢◌, List, sym, refl, ap, ◌∙◌, subst, arith, rules}
+use Rattle.std.proofs.Common.{◌≡◌, ℕ, ◌+◌, ◌<◌, ◌≢◌, List, sym, refl, ◌∙◌, subst, arith, rules}
 use Rattle.std.proofs.lemmas.Bool.{leb-true, leb-false}
 use Rattle.cells.specs.Steps.{LeftRead, RightRead}
-use Rattle.ropes.specs.Rope.{bytes, height}
+use Rattle.ropes.specs.Rope.{bytes}
 use Rattle.ropes.specs.Layout.{sum_at}
 use Rattle.rope_cells.specs.Lending.{LendsSome, LendsChildren, ShapeIs}
 use Rattle.rope_cells.specs.declared.reading.Shape.{Shape}
 use Rattle.rope_cells.proofs.Codes.{children_reading}
-use Rattle.rope_read.specs.Descent.{Under, Leads}
+use Rattle.rope_read.specs.Descent.{Under}
 use Rattle.rope_read.proofs.Descents.{Branch, branch, reached_here, leads_left, reached_left, left_under, leads_right, reached_right, right_under, sum_bound}
 use Rattle.rope_read.proofs.descent.+descend.Goals as goal
 

@@ -1,4 +1,4 @@
-use Rattle.std.proofs.Common.{◌≡◌, ℕ, ◌+◌, ◌-◌, ◌*◌, ◌<◌, ◌≤◌, min, max, List, length, take, drop, sym, refl, ap, ◌∙◌, subst, arith, length-take, rules}
+use Rattle.std.proofs.Common.{◌≡◌, ◌+◌, ◌-◌, ◌≤◌, length, take, refl, ◌∙◌, subst, arith, rules}
 use Rattle.rope_read.specs.Text.{text}
 use Rattle.rope_read.specs.Finding.{Absent, Last}
 use Rattle.rope_read.proofs.Finds.{absent_none, absent_before, absent_join, last_earlier, chunk_long, buffer_long}

@@ -1,5 +1,4 @@
 use Rattle.std.proofs.Common.{arith}
-use Rattle.rope_read.specs.Finding.{Absent}
 use Rattle.rope_read.proofs.Finds.{absent_none, absent_on, first_is, absent_up_to}
 use Rattle.rope_read.proofs.finding.first_in.Goals as goal
 

@@ -1,6 +1,4 @@
-use Rattle.std.proofs.Common.{◌≡◌, ◌+◌, ◌<◌, ◌≤◌, length, take, drop, sym, ap, ◌∙◌, subst, arith, rules}
-use Rattle.rope_read.specs.Text.{text}
-use Rattle.rope_read.specs.Finding.{Absent, First}
+use Rattle.std.proofs.Common.{◌+◌, ◌<◌, arith, rules}
 use Rattle.rope_read.proofs.Spots.{text_few}
 use Rattle.rope_read.proofs.Finds.{absent_read, first_read}
 use Rattle.rope_read.proofs.finding.first_in_part.Goals as goal

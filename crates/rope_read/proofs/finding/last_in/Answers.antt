@@ -1,4 +1,4 @@
-use Rattle.std.proofs.Common.{◌≡◌, ◌+◌, ◌-◌, ◌<◌, ◌≤◌, length, sym, ap, subst, arith, rules}
+use Rattle.std.proofs.Common.{◌≡◌, ◌+◌, ◌-◌, length, subst, arith, rules}
 use Rattle.rope_read.specs.Finding.{Absent}
 use Rattle.rope_read.proofs.Finds.{absent_none, absent_back, absent_before, last_is}
 use Rattle.rope_read.proofs.finding.last_in.Goals as goal

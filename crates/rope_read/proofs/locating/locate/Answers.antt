@@ -1,5 +1,4 @@
-use Rattle.std.proofs.Common.{◌≡◌, sym, refl, ◌∙◌, arith, rules}
-use Rattle.rope_cells.specs.Leaves.{LendsLeaf}
+use Rattle.std.proofs.Common.{refl, ◌∙◌, arith}
 use Rattle.rope_read.proofs.Descents.{under_all, leads_all, leaf_same, located}
 use Rattle.rope_read.proofs.locating.locate.Goals as goal
 

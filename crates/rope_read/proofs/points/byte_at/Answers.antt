@@ -1,4 +1,4 @@
-use Rattle.std.proofs.Common.{◌≡◌, ◌+◌, ◌-◌, ◌<◌, ◌≤◌, length, sym, refl, ap, ◌∙◌, arith, rules}
+use Rattle.std.proofs.Common.{◌≡◌, ◌+◌, length, refl, ap, ◌∙◌, arith, rules}
 use Rattle.ropes.specs.Layout.{sum_at}
 use Rattle.ropes.proofs.Sums.{sum_first}
 use Rattle.rope_read.specs.Text.{text}

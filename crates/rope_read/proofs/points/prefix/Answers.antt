@@ -1,7 +1,7 @@
-use Rattle.std.proofs.Common.{◌≡◌, ◌+◌, ◌-◌, ◌<◌, ◌≤◌, min, ◌≢◌, List, [], length, take, sym, refl, ap, ◌∙◌, arith, length-take, rules}
+use Rattle.std.proofs.Common.{◌≡◌, ◌+◌, ◌-◌, ◌<◌, min, length, take, sym, refl, ap, ◌∙◌, arith, length-take, rules}
 use Rattle.std.proofs.lemmas.Bool.{eqb-true, eqb-false}
 use Rattle.ropes.specs.Layout.{sum_at}
-use Rattle.ropes.proofs.Sums.{sum_first, sum_small}
+use Rattle.ropes.proofs.Sums.{sum_first}
 use Rattle.rope_cells.proofs.Codes.{lends_some}
 use Rattle.rope_read.specs.Text.{text}
 use Rattle.rope_read.proofs.Spots.{text_none, text_few, by_within, place_fits, front_sum_none, prefix_is, front_min}

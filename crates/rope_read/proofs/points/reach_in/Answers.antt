@@ -1,4 +1,4 @@
-use Rattle.std.proofs.Common.{◌≡◌, ℕ, ◌+◌, ◌-◌, ◌<◌, ◌≤◌, List, length, take, drop, sym, refl, ap, ◌∙◌, arith, rules, below_more}
+use Rattle.std.proofs.Common.{◌≡◌, ℕ, ◌<◌, ◌≤◌, List, length, take, drop, sym, arith, below_more}
 use Rattle.rope_read.proofs.Spots.{sums_none, not_yet, one_more}
 use Rattle.rope_read.proofs.points.reach_in.Given as given
 use Rattle.rope_read.proofs.points.reach_in.Goals as goal

@@ -1,4 +1,4 @@
-use Rattle.std.proofs.Common.{◌≡◌, ℕ, ◌+◌, ◌-◌, ◌<◌, ◌≤◌, true, false, eqb, ◌≢◌, List, ◌++◌, length, take, drop, sym, refl, ap, ◌∙◌, subst, arith, rules}
+use Rattle.std.proofs.Common.{◌≡◌, ℕ, ◌+◌, ◌-◌, ◌≤◌, false, eqb, List, ◌++◌, length, take, drop, sym, refl, ap, ◌∙◌, subst, arith}
 use Rattle.std.proofs.lemmas.Bool.{eqb-true, eqb-false}
 use Rattle.cells.specs.Steps.{LeftRead, RightRead}
 use Rattle.ropes.specs.Rope.{bytes, height}
@@ -8,7 +8,6 @@ use Rattle.rope_cells.proofs.Codes.{children_reading}
 use Rattle.rope_read.specs.Text.{text}
 use Rattle.rope_read.specs.Ranges.{Sized, Filled, price}
 use Rattle.rope_read.proofs.Descents.{lends_leaf}
-use Rattle.rope_read.proofs.Spots.{text_few}
 use Rattle.rope_read.proofs.Spans.{Forked, forked, levels_some, sized_text, middle_bounds, left_filled, right_filled, range_left, range_right, range_both, price_leaf, price_left, price_right, price_both, part_length, rest_length, put_both}
 use Rattle.rope_read.proofs.ranges.+read_part.Goals as goal
 

@@ -1,4 +1,4 @@
-use Rattle.std.proofs.Common.{◌≡◌, sym, refl, arith, rules}
+use Rattle.std.proofs.Common.{refl, arith}
 use Rattle.rope_read.proofs.Spans.{some_of, told_by_size, told_by_shape, tag_price_one}
 use Rattle.rope_read.proofs.ranges.is_leaf.Goals as goal
 

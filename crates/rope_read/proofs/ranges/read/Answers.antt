@@ -1,7 +1,5 @@
-use Rattle.std.proofs.Common.{◌≡◌, ◌+◌, ◌-◌, ◌<◌, ◌≤◌, ◌≢◌, length, take, drop, sym, refl, ap, ◌∙◌, arith, rules}
+use Rattle.std.proofs.Common.{◌≢◌, length, sym, refl, ◌∙◌, arith}
 use Rattle.std.proofs.lemmas.Bool.{eqb-true, eqb-false}
-use Rattle.rope_read.specs.Text.{text}
-use Rattle.rope_read.proofs.Spots.{inside_some}
 use Rattle.rope_read.proofs.Spans.{range_none, short_leaf, filled_all, price_all}
 use Rattle.rope_read.proofs.ranges.read.Goals as goal
 

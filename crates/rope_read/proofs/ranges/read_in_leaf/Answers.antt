@@ -1,4 +1,4 @@
-use Rattle.std.proofs.Common.{◌≡◌, ◌+◌, ◌-◌, ◌<◌, ◌≤◌, length, take, drop, sym, refl, ap, ◌∙◌, arith, rules}
+use Rattle.std.proofs.Common.{◌≡◌, length, take, drop, sym, refl, ap, ◌∙◌, arith}
 use Rattle.ropes.specs.Rope.{bytes}
 use Rattle.rope_read.specs.Text.{text}
 use Rattle.rope_read.proofs.Texts.{text_is}

@@ -1,4 +1,4 @@
-use Rattle.std.proofs.Common.{◌≡◌, length, sym, ap, ◌∙◌, arith}
+use Rattle.std.proofs.Common.{length, sym, ap, ◌∙◌, arith}
 use Rattle.ropes.proofs.Cuts.{size_bytes}
 use Rattle.rope_read.proofs.Texts.{text_is}
 use Rattle.rope_read.proofs.totals.len.Goals as goal

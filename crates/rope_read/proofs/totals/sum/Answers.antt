@@ -1,4 +1,4 @@
-use Rattle.std.proofs.Common.{◌≡◌, sym, ap, ◌∙◌}
+use Rattle.std.proofs.Common.{sym, ap, ◌∙◌}
 use Rattle.rope_read.proofs.Texts.{text_is}
 use Rattle.rope_read.proofs.totals.sum.Goals as goal
 

@@ -1,5 +1,4 @@
-use Rattle.std.proofs.Common.{◌≡◌, ℕ, List, [], ◌++◌, length, take, sym, refl, ap, ◌∙◌, subst, arith, rules}
-use Rattle.terminals.specs.Drawing.{step_bytes}
+use Rattle.std.proofs.Common.{◌≡◌, [], length, take, ap, ◌∙◌, rules}
 use Rattle.terminals.specs.Progress.{Drawn}
 use Rattle.terminals.proofs.Sending.{drawn, drawn_front}
 use Rattle.term.specs.Scene.{Scene}

@@ -1,4 +1,4 @@
-use Rattle.std.proofs.Common.{refl, arith, rules}
+use Rattle.std.proofs.Common.{refl, arith}
 use Rattle.term.proofs.Sequels.{last_skipped, last_sent, last_touches}
 use Rattle.term.proofs.drawing.redraw_last.Goals as goal
 

@@ -1,4 +1,4 @@
-use Rattle.std.proofs.Common.{◌≡◌, ℕ, ◌+◌, ◌*◌, ◌<◌, ◌≤◌, T, length, sym, refl, ap, ◌∙◌, subst, arith, rules}
+use Rattle.std.proofs.Common.{◌≡◌, ℕ, ◌+◌, ◌*◌, ◌≤◌, length, sym, refl, ap, ◌∙◌, arith, rules}
 use Rattle.terminals.proofs.Sending.{row_stays}
 use Rattle.term.specs.Scene.{Scene}
 use Rattle.term.proofs.Scenes.{before_row, after_row, before_width, after_height, after_width, update_sent, update_refused}

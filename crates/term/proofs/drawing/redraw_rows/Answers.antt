@@ -1,4 +1,4 @@
-use Rattle.std.proofs.Common.{◌≡◌, ℕ, ◌+◌, ◌-◌, ◌*◌, ◌<◌, ◌≤◌, length, Some, None, sym, refl, ap, ◌∙◌, subst, arith, rules}
+use Rattle.std.proofs.Common.{◌≡◌, ℕ, ◌-◌, ◌*◌, length, Some, None, sym, ap, ◌∙◌, arith}
 use Rattle.term.specs.Scene.{Scene}
 use Rattle.term_rows.specs.Lent.{Lent}
 use Rattle.term.proofs.Scenes.{height}

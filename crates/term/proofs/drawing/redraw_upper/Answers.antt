@@ -1,5 +1,4 @@
-use Rattle.std.proofs.Common.{◌≡◌, ℕ, ◌+◌, ◌*◌, ◌<◌, ◌≤◌, List, length, Some, None, sym, refl, ap, ◌∙◌, subst, arith, rules}
-use Rattle.terminals.specs.Progress.{visited}
+use Rattle.std.proofs.Common.{◌≡◌, ◌*◌, Some, None, sym, refl, ap, ◌∙◌, arith}
 use Rattle.term.specs.Scene.{Scene}
 use Rattle.term_rows.specs.Lent.{Lent}
 use Rattle.term.proofs.Scenes.{height}

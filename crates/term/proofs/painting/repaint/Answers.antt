@@ -1,8 +1,4 @@
-use Rattle.std.proofs.Common.{◌≡◌, ℕ, ◌+◌, ◌*◌, ◌≤◌, List, [], ◌∷◌, ◌++◌, length, take, sym, refl, ap, ◌∙◌, subst, arith, rules}
-use Rattle.spec.specs.Bytes.{cancel_sequence}
-use Rattle.spec.specs.Promises.{paint_cost}
-use Rattle.terminals.specs.Sequences.{move_bytes}
-use Rattle.terminals.specs.Drawing.{Drawable, step_bytes}
+use Rattle.std.proofs.Common.{◌≡◌, ℕ, ◌+◌, [], length, take, ap, ◌∙◌, arith, rules}
 use Rattle.terminals.specs.Painting.{from_row, PaintSent, Painted}
 use Rattle.terminals.proofs.Painting.{paint_begun, painted, painted_front}
 use Rattle.term.specs.Scene.{Scene}

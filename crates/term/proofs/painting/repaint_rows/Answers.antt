@@ -1,4 +1,4 @@
-use Rattle.std.proofs.Common.{◌≡◌, ℕ, ◌+◌, ◌*◌, ◌<◌, ◌≤◌, List, [], length, get_or, sym, refl, ap, ◌∙◌, subst, arith, rules}
+use Rattle.std.proofs.Common.{◌≡◌, ℕ, ◌+◌, [], length, get_or, sym, refl, ap, ◌∙◌, arith}
 use Rattle.term.specs.Scene.{Scene}
 use Rattle.term_rows.specs.Lent.{Lent}
 use Rattle.term.proofs.Paints.{row_length, paint_more, each_more, room_left}

@@ -1,7 +1,6 @@
-use Rattle.std.proofs.Common.{◌≡◌, ℕ, ◌+◌, ◌-◌, ◌≤◌, Bool, true, false, cond, List, [], ◌++◌, length, take, drop, sym, refl, ap, ◌∙◌, append_assoc, arith, length-take, rules}
+use Rattle.std.proofs.Common.{◌≡◌, cond, [], ◌++◌, sym, refl, ap, ◌∙◌, append_assoc, rules}
 use Rattle.std.proofs.lemmas.List.{append-nil}
 use Rattle.terminals.specs.Sequences.{clear_bytes}
-use Rattle.terminals.specs.Drawing.{step_bytes}
 use Rattle.term_rows.proofs.row.write_update.Goals as goal
 use Rattle.term_rows.proofs.row.write_update.Goals.{then-clear, else-clear}
 

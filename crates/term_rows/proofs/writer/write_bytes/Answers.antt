@@ -1,4 +1,4 @@
-use Rattle.std.proofs.Common.{◌≡◌, [], ◌∷◌, get_or, take, ap, append_assoc, arith, rules}
+use Rattle.std.proofs.Common.{[], ◌∷◌, get_or, take, ap, append_assoc, arith, rules}
 use Rattle.std.proofs.lemmas.List.{take_more, take_all}
 use Rattle.term_rows.specs.Lent.{Lent}
 use Rattle.term_rows.proofs.writer.write_bytes.Goals as goal

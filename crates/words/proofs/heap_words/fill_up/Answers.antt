@@ -1,5 +1,4 @@
-use Rattle.std.proofs.Common.{◌≡◌, ◌<◌, length, vec_items, sym, ap, ◌∙◌, arith}
-use Rattle.words.specs.Padded.{padded}
+use Rattle.std.proofs.Common.{◌<◌, length, vec_items, sym, ◌∙◌, arith}
 use Rattle.words.proofs.Padding.{padded_push, padded_enough}
 use Rattle.words.proofs.heap_words.fill_up.Goals as goal
 

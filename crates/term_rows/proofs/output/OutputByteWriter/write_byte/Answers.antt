@@ -1,4 +1,4 @@
-use Rattle.std.proofs.Common.{◌<◌, length, ap, ◌∙◌, arith, length-set, length-take, rules}
+use Rattle.std.proofs.Common.{◌<◌, length, ap, ◌∙◌, arith, length-set, length-take}
 use Rattle.std.proofs.lemmas.List.{take_more_set, length_push}
 use Rattle.term_rows.proofs.output.OutputByteWriter.write_byte.Goals as goal
 

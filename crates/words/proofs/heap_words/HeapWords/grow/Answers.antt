@@ -1,4 +1,4 @@
-use Rattle.std.proofs.Common.{◌≡◌, ◌≤◌, length, vec_items, sym, refl, ap, ◌∙◌, arith, rules}
+use Rattle.std.proofs.Common.{◌≤◌, length, vec_items, sym, ap, ◌∙◌, arith, rules}
 use Rattle.words.specs.Padded.{padded}
 use Rattle.words.proofs.Padding.{padded_more, padded_enough, padded_length}
 use Rattle.words.proofs.heap_words.HeapWords.grow.Goals as goal

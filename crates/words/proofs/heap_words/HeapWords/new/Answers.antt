@@ -1,4 +1,4 @@
-use Rattle.std.proofs.Common.{◌≡◌, ◌-◌, [], length, vec_items, refl, ap, ◌∙◌, arith}
+use Rattle.std.proofs.Common.{◌≡◌, ◌-◌, length, vec_items, refl, ap, ◌∙◌, arith}
 use Rattle.words.specs.Padded.{padded, zeros}
 use Rattle.words.proofs.Padding.{length_zeros}
 use Rattle.words.proofs.heap_words.HeapWords.new.Goals as goal

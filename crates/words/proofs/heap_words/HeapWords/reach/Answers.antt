@@ -1,4 +1,4 @@
-use Rattle.std.proofs.Common.{◌≡◌, ◌+◌, ◌≤◌, length, vec_items, ap, ◌∙◌, arith, rules}
+use Rattle.std.proofs.Common.{◌+◌, length, vec_items, ap, ◌∙◌, arith, rules}
 use Rattle.words.specs.Padded.{padded}
 use Rattle.words.proofs.Padding.{padded_more, padded_length}
 use Rattle.words.proofs.heap_words.HeapWords.reach.Goals as goal
