@@ -1,7 +1,7 @@
 -- The steps of storing a pair: it is shared, named by the state, opened, and its parts are let go.
-use Rattle.std.proofs.Common.{◌≡◌, ℕ, ◌+◌, ◌≤◌, List, [], ◌∷◌, length, get_or, ap, ◌∙◌, arith}
+use Rattle.std.proofs.Common.{◌≡◌, ℕ, ◌+◌, ◌≤◌, List, [], ◌∷◌, length, get_or, ap, arith}
 use Rattle.cells.specs.Tree.{Tree, none, node}
-use Rattle.cells.specs.Have.{Item, item, Have}
+use Rattle.cells.specs.Have.{item, Have}
 use Rattle.cells.specs.Steps.{Sharing, Shared, Stays, Opening, Opened, Holding, Released}
 use Rattle.cells.proofs.Held.{lend}
 use Rattle.chain.specs.Chains.{numbered, paired, Pair}

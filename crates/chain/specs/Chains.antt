@@ -2,7 +2,7 @@
 use Rattle.std.specs.Prelude.{◌≡◌, ℕ, zero, suc, ◌+◌, ◌<◌, List, [], ◌∷◌, length, replicate, slice_set}
 use Rattle.cells.specs.Layout.{state}
 use Rattle.cells.specs.Tree.{Tree, none, node}
-use Rattle.cells.specs.Have.{Item, item, Have}
+use Rattle.cells.specs.Have.{item, Have}
 use Rattle.cells.specs.Steps.{Full}
 
 abbrev pub numbered : ℕ → List ℕ

@@ -1,8 +1,8 @@
 use Rattle.std.proofs.Common.{◌≡◌, ◌+◌, [], ◌∷◌, sym, refl, ap, ◌∙◌, subst, add-one}
-use Rattle.cells.specs.Tree.{Tree, none, node}
+use Rattle.cells.specs.Tree.{none, node}
 use Rattle.cells.specs.Have.{item, Have}
 use Rattle.cells.proofs.Held.{have_none}
-use Rattle.chain.specs.Chains.{chained, numbered}
+use Rattle.chain.specs.Chains.{chained}
 use Rattle.chain.proofs.build.Goals as goal
 
 pub loop-k-init : goal.loop-k-init

@@ -1,9 +1,9 @@
-use Rattle.std.proofs.Common.{◌≡◌, ℕ, ◌+◌, List, [], ◌∷◌, sym, ap, ◌∙◌, subst, arith}
-use Rattle.cells.specs.Tree.{Tree, none, node}
+use Rattle.std.proofs.Common.{ℕ, ◌+◌, List, [], ◌∷◌, sym, ◌∙◌, subst, arith}
+use Rattle.cells.specs.Tree.{none, node}
 use Rattle.cells.specs.Have.{item, Have, Lent}
 use Rattle.cells.specs.Steps.{Reading, LeftRead}
 use Rattle.cells.proofs.Held.{lend}
-use Rattle.chain.specs.Chains.{paired, numbered, Pair}
+use Rattle.chain.specs.Chains.{paired, numbered}
 use Rattle.chain.proofs.number_below.Goals as goal
 
 module _ (m : List ℕ) (p n : ℕ) (h : Have m (item p (paired n) ∷ [])) where

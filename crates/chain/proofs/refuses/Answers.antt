@@ -1,4 +1,4 @@
-use Rattle.std.proofs.Common.{[], ◌∷◌, sym, subst, rules}
+use Rattle.std.proofs.Common.{◌∷◌, sym, subst}
 use Rattle.cells.specs.Tree.{none}
 use Rattle.cells.specs.Have.{item, Have}
 use Rattle.cells.proofs.Held.{have_none}

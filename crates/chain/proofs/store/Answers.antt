@@ -1,4 +1,4 @@
-use Rattle.std.proofs.Common.{◌≡◌, set, ap, ◌∙◌, arith}
+use Rattle.std.proofs.Common.{set, ap, ◌∙◌, arith}
 use Rattle.chain.proofs.Storing.{pair_long, pair_share, pair_open, pair_left, pair_right, pair_stored, pair_upper}
 use Rattle.chain.proofs.store.Goals as goal
 

@@ -1,9 +1,8 @@
-use Rattle.std.proofs.Common.{◌≡◌, ℕ, ◌≤◌, List, [], ◌∷◌, length, get_or, set, sym, ap, ◌∙◌, subst, arith}
+use Rattle.std.proofs.Common.{◌≡◌, ℕ, List, get_or, sym, ap, ◌∙◌, subst, arith}
 use Rattle.std.proofs.lemmas.List.{get_or-set_same}
 use Rattle.cells.specs.Layout.{state}
-use Rattle.cells.specs.Have.{item, Have}
 use Rattle.cells.proofs.Rows.{length_state}
-use Rattle.chain.specs.Chains.{paired, Pair, Stored}
+use Rattle.chain.specs.Chains.{Pair, Stored}
 use Rattle.chain.proofs.Storing.{pair_long}
 use Rattle.chain.proofs.tests.finds_what_it_stored.Goals as goal
 
@@ -15,13 +14,13 @@ found m m' m'' p q x a s is same =
     subst (λ z. Pair z q) (sym same) (subst (λ z. Pair m' z) (sym e) (record { number = a.number; have = s.have a.number a.have }))
 
 pub store-requires : goal.store-requires
-store-requires c = record { number = 5; have = c.in-Some.ensures }
+store-requires g c = record { number = 5; have = c.in-Some.ensures }
 
 pub root-found-requires : goal.root-found-requires
-root-found-requires c =
+root-found-requires g c =
     let a : Pair _ c.in-Some.two.0 = record { number = 5; have = c.in-Some.ensures } in
     record { root = omega arith; long = omega (arith, pair_long _ _ a, c.store.ensures.long) }
 
 pub number_below-requires : goal.number_below-requires
-number_below-requires c =
+number_below-requires g c =
     found _ _ _ c.in-Some.two.0 _ _ (record { number = 5; have = c.in-Some.ensures }) c.store.ensures c.root-found.ensures.value c.root-found.ensures.same

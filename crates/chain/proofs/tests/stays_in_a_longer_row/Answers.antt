@@ -12,11 +12,11 @@ longer : (m m' : List ℕ) (n : ℕ) (items : List Item) → m' ≡ padded m n �
 longer m m' n items e h = subst (λ z. Have z items) (sym e) (longer_row m items (n - length m) h).0
 
 pub number_below-requires : goal.number_below-requires
-number_below-requires c =
+number_below-requires g c =
     record { number = 1; have = longer _ _ 176 (item c.in-Some.two.0 (paired 1) ∷ []) c.in_ok-grow.ensures.cases c.in-Some.ensures }
 
 pub make-requires : goal.make-requires
-make-requires c =
+make-requires g c =
     let x = item c.in-Some.two.0 (paired 1) in
     let h = longer _ _ 176 (x ∷ []) c.in_ok-grow.ensures.cases c.in-Some.ensures in
     record {
