@@ -12,8 +12,8 @@ part_same m m' i n long same =
     let lt : k < n = omega (arith, simp length-take at h) in
     get_or-take n (drop i m') k 0 lt ∙ get_or-drop i m' k 0 ∙ same k lt ∙ sym (get_or-drop i m k 0) ∙ sym (get_or-take n (drop i m) k 0 lt)))
 
-pub get_d_part : (m : List ℕ) (i n k : ℕ) → k < n → get_or (take n (drop i m)) k 0 ≡ get_or m (i + k) 0
-get_d_part m i n k h = get_or-take n (drop i m) k 0 h ∙ get_or-drop i m k 0
+pub get_or_part : (m : List ℕ) (i n k : ℕ) → k < n → get_or (take n (drop i m)) k 0 ≡ get_or m (i + k) 0
+get_or_part m i n k h = get_or-take n (drop i m) k 0 h ∙ get_or-drop i m k 0
 
 -- a write within a part
 pub take_set : (n : ℕ) (xs : List ℕ) (i x : ℕ) → i < n → take n (set xs i x) ≡ set (take n xs) i x
@@ -35,9 +35,9 @@ unfolding over
 get_or_over_below m i k xs h lt =
     get_or_append_left (take i m) (xs ++ drop (i + length xs) m) 0 k (simp length-take (omega arith)) ∙ get_or-take i m k 0 lt
 
-pub get_d_over : (m : List ℕ) (i k : ℕ) (xs : List ℕ) → i ≤ length m → k < length xs → get_or (over m i xs) (i + k) 0 ≡ get_or xs k 0
+pub get_or_over : (m : List ℕ) (i k : ℕ) (xs : List ℕ) → i ≤ length m → k < length xs → get_or (over m i xs) (i + k) 0 ≡ get_or xs k 0
 unfolding over
-get_d_over m i k xs h lt =
+get_or_over m i k xs h lt =
     let e : i + k - i ≡ k = omega arith in
     get_or-append_right (take i m) (xs ++ drop (i + length xs) m) i (i + k) 0 (length-take-le i m h) (omega arith)
     ∙ ap (λ z. get_or (xs ++ drop (i + length xs) m) z 0) e
@@ -75,7 +75,7 @@ over_more m i k xs lt h =
         | inr b ↦ elim (cases_eq j (i + k)) [
           | inl c ↦
               ap (λ z. get_or (set old (i + k) (get_or xs k 0)) z 0) c ∙ get_or-set_same old (i + k) (get_or xs k 0) 0 (omega arith)
-              ∙ sym (get_or-take (k + 1) xs k 0 (omega arith)) ∙ sym (get_d_over m i k (take (k + 1) xs) (omega arith) (omega arith)) ∙ ap (λ z. get_or new z 0) (sym c)
+              ∙ sym (get_or-take (k + 1) xs k 0 (omega arith)) ∙ sym (get_or_over m i k (take (k + 1) xs) (omega arith) (omega arith)) ∙ ap (λ z. get_or new z 0) (sym c)
           | inr c ↦
               get_or-set_other old (i + k) j (get_or xs k 0) 0 c
               ∙ get_or_over_past m i j (take k xs) (omega arith) (omega arith) ∙ sym (get_or_over_past m i j (take (k + 1) xs) (omega arith) (omega arith))
@@ -86,4 +86,4 @@ over_more m i k xs lt h =
     inside : (j : ℕ) (ys : List ℕ) → i ≤ j → j < i + length ys → get_or (over m i ys) j 0 ≡ get_or ys (j - i) 0
     inside j ys a b =
         let e : j ≡ i + (j - i) = omega arith in
-        ap (λ z. get_or (over m i ys) z 0) e ∙ get_d_over m i (j - i) ys (omega arith) (omega arith)
+        ap (λ z. get_or (over m i ys) z 0) e ∙ get_or_over m i (j - i) ys (omega arith) (omega arith)

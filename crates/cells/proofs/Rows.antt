@@ -3,7 +3,7 @@ use Rattle.std.proofs.Common.{◌≡◌, ℕ, ◌+◌, ◌-◌, ◌*◌, ◌<◌
 use Rattle.std.proofs.lemmas.Bool.{cases_lt}
 use Rattle.std.proofs.lemmas.List.{length-set, length-take, length-take-le, length-drop, get_or-set_same, get_or-set_other, drop-set-add, ext_get_or, length-append, get_or_append_left, get_or-append_right, get_or-take, get_or-drop, drop_more, set_at, replicate_more, length-replicate, append_assoc, drop-append-le, take-append-le}
 use Rattle.cells.specs.Layout.{cell, at, put, over, filled, state, cleared}
-use Rattle.cells.proofs.Lists.{part_same, get_d_part, take_set, length_over, get_or_over_below, get_d_over, get_or_over_past, over_more}
+use Rattle.cells.proofs.Lists.{part_same, get_or_part, take_set, length_over, get_or_over_below, get_or_over, get_or_over_past, over_more}
 
 pub length_put : (m : List ℕ) (p k x : ℕ) → length (put m p k x) ≡ length m
 unfolding put
@@ -16,7 +16,7 @@ length_cell m p h = simp (length-take, length-drop) (omega arith)
 -- the words of a cell in the row
 pub at_word : (m : List ℕ) (p k : ℕ) → k < 16 → at m p k ≡ get_or m (16 * p + k) 0
 unfolding at cell
-at_word m p k h = get_d_part m (16 * p) 16 k h
+at_word m p k h = get_or_part m (16 * p) 16 k h
 
 pub at_cell : (m m' : List ℕ) (p : ℕ) → cell m' p ≡ cell m p → (k : ℕ) → at m' p k ≡ at m p k
 unfolding at
@@ -78,14 +78,14 @@ module _ (m w : List ℕ) (p : ℕ) (thirteen : length w ≡ 13) (long : 16 * p 
       let sixteen : length c' ≡ 16 = length_cell (over m (16 * p + 3) w) p (omega (arith, length_data)) in
       ext_get_or 0 c' (take 3 c ++ w) (sixteen ∙ sym (simp length-append (omega arith))) (λ k h.
       let lt : k < 16 = omega arith in
-      get_d_part (over m (16 * p + 3) w) (16 * p) 16 k lt ∙
+      get_or_part (over m (16 * p + 3) w) (16 * p) 16 k lt ∙
       elim (cases_lt k 3) [
         | inl a ↦
             get_or_over_below m (16 * p + 3) (16 * p + k) w (omega arith) (omega arith)
-            ∙ sym (get_d_part m (16 * p) 16 k lt) ∙ sym (get_or-take 3 c k 0 a) ∙ sym (get_or_append_left (take 3 c) w 0 k (omega arith))
+            ∙ sym (get_or_part m (16 * p) 16 k lt) ∙ sym (get_or-take 3 c k 0 a) ∙ sym (get_or_append_left (take 3 c) w 0 k (omega arith))
         | inr a ↦
             let e : 16 * p + k ≡ 16 * p + 3 + (k - 3) = omega arith in
-            ap (λ z. get_or (over m (16 * p + 3) w) z 0) e ∙ get_d_over m (16 * p + 3) (k - 3) w (omega arith) (omega arith)
+            ap (λ z. get_or (over m (16 * p + 3) w) z 0) e ∙ get_or_over m (16 * p + 3) (k - 3) w (omega arith) (omega arith)
             ∙ sym (get_or-append_right (take 3 c) w 3 k 0 three a)
       ])
 
@@ -164,7 +164,7 @@ length_state m h = simp (length-take, length-drop) (omega arith)
 
 pub state_word : (m : List ℕ) (i : ℕ) → i < 112 → get_or m (16 + i) 0 ≡ get_or (state m) i 0
 unfolding state
-state_word m i lt = sym (get_d_part m 16 112 i lt)
+state_word m i lt = sym (get_or_part m 16 112 i lt)
 
 -- zeros behind the row
 module _ (m : List ℕ) (zs : List ℕ) where

@@ -13,7 +13,7 @@ use Rattle.spec.specs.History.{recorded, finish, finish_in_column, cancel}
 use Rattle.spec.specs.Commands.{run_motion}
 use Rattle.spec.specs.Dispatch.{digit_key, operator_key, awaiter_key, command_key, normal_key, noted, typed_key, replay, repeat_last, repeats, pending_count, follow, scrolled, key}
 use Rattle.spec.specs.Promises.{Reachable, Sees}
-use Rattle.spec.specs.Laws.{continued, goes_on_with, cannot_command, can_not, OnlyCommand, Goes_on, IsOver, PendingIsHarmless}
+use Rattle.spec.specs.Laws.{continued, goes_on_with, cannot_command, can_not, OnlyCommand, GoesOn, IsOver, PendingIsHarmless}
 use Rattle.laws.proofs.TextMotions.{times_keeps, Each}
 use Rattle.laws.proofs.Dispatching.{repeats_outside, key_repeated, key_typed, typed_outside}
 use Rattle.laws.proofs.Phases.{Next}
@@ -130,7 +130,7 @@ unfolding normal_key
 continues_by e (ready p) k = continues (with_pending e (ready p)) p (key_of k)
 continues_by e (awaiting a p) k = tt
 
-goes_on : (e : Ed) (k : ℕ) (p : Pending) → Reachable e → e.inserting ≡ false → goes_on_with e.command.pending k ≡ some p → Goes_on e k p
+goes_on : (e : Ed) (k : ℕ) (p : Pending) → Reachable e → e.inserting ≡ false → goes_on_with e.command.pending k ≡ some p → GoesOn e k p
 unfolding noted scrolled
 goes_on e k p w i g = record { only_command = subst (OnlyCommand e) (sym is) (only_command e (typed_key e k) _ w typed); keys = ap (λ (f : Ed). f.command.keys) is ∙ ap (λ (f : Ed). f.command.keys) typed; pending = ap (λ (f : Ed). f.command.pending) is ∙ ap (λ (f : Ed). f.command.pending) typed }
   where

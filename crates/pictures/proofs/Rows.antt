@@ -1,6 +1,6 @@
 -- Rows cut from cells.
 use Rattle.std.proofs.Common.{◌≡◌, ℕ, zero, suc, ◌+◌, ◌*◌, ◌<◌, ◌≤◌, true, leb, List, [], ◌∷◌, ◌++◌, length, get_or, take, drop, sym, refl, ap, ◌∙◌, subst, mul-le-mul_right, add-mul, one-mul, zero-mul, add-one, arith, length-drop}
-use Rattle.std.specs.List.{AllByRecursion as All}
+use Rattle.std.specs.List.{AllByRecursion}
 use Rattle.std.proofs.lemmas.List.{drop-drop, length-take-le}
 use Rattle.std.proofs.ByRecursion.{All-get_or, All-take, All-drop}
 use Rattle.std.proofs.lemmas.Bool.{and_parts, and_from, le-leb}
@@ -20,14 +20,14 @@ unfolding rows_of
 height_of zero columns cells = refl
 height_of (suc n) columns cells = ap suc (height_of n columns (drop columns cells))
 
-pub width_of : (n columns : ℕ) (cells : List ℕ) → length cells ≡ n * columns → All (λ (r : Row). length r ≡ columns) (rows_of n columns cells)
+pub width_of : (n columns : ℕ) (cells : List ℕ) → length cells ≡ n * columns → AllByRecursion (λ (r : Row). length r ≡ columns) (rows_of n columns cells)
 unfolding rows_of
 width_of zero columns cells h = tt
 width_of (suc n) columns cells h =
     let e = row_and_rest n columns in
     (length-take-le columns cells (omega arith), width_of n columns (drop columns cells) (rw length-drop (omega arith)))
 
-pub printable_of : (n columns : ℕ) (cells : List ℕ) → Printable cells → All Printable (rows_of n columns cells)
+pub printable_of : (n columns : ℕ) (cells : List ℕ) → Printable cells → AllByRecursion Printable (rows_of n columns cells)
 unfolding rows_of
 printable_of zero columns cells h = tt
 printable_of (suc n) columns cells h = (All-take (λ (c : ℕ). is_printable c ≡ true) columns cells h, printable_of n columns (drop columns cells) (All-drop (λ (c : ℕ). is_printable c ≡ true) columns cells h))

@@ -112,7 +112,7 @@ pub record OnlyCommand (e f : Ed) : Type 0 where
   pub view : 2 ≤ e.view.rows → 1 ≤ e.view.columns → f.view ≡ e.view
 
 -- A command is going on, and its keys are those of e with one more.
-pub record Goes_on (e : Ed) (k : ℕ) (p : Pending) : Type 0 where
+pub record GoesOn (e : Ed) (k : ℕ) (p : Pending) : Type 0 where
   pub only_command : OnlyCommand e (key e k)
   pub keys : (key e k).command.keys ≡ e.command.keys ++ (k ∷ [])
   pub pending : (key e k).command.pending ≡ p
@@ -127,7 +127,7 @@ pub record Harmless (e : Ed) : Type 0 where
   -- if a command is going on after a key, nothing else has changed
   pub unfinished : (k : ℕ) → (key e k).inserting ≡ false → ((key e k).command.keys ≢ []) → OnlyCommand e (key e k)
   -- and it is going on after the keys that go on with one
-  pub goes_on : (k : ℕ) (p : Pending) → goes_on_with e.command.pending k ≡ some p → Goes_on e k p
+  pub goes_on : (k : ℕ) (p : Pending) → goes_on_with e.command.pending k ≡ some p → GoesOn e k p
   -- a command that can't be done is over, and nothing else has changed
   pub not_done : (k : ℕ) → can_not e k ≡ true → IsOver e k
   pub escaped : IsOver e escape

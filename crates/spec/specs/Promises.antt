@@ -1,6 +1,6 @@
 -- The theorems on keys, and what the calls of the editor promise.
 use Rattle.std.specs.Prelude.{◌≡◌, ℕ, ◌+◌, ◌-◌, ◌*◌, ◌<◌, ◌≤◌, Bool, true, false, cond, ◌&&◌, ◌||◌, ◌⊎◌, List, [], ◌∷◌, length, take, Some, None, Option, ◌==◌}
-use Rattle.std.specs.List.{AllByRecursion as All}
+use Rattle.std.specs.List.{AllByRecursion}
 use Rattle.spec.specs.Bytes.{ascii}
 use Rattle.spec.specs.Text.{Text, column, line_of, last_in_line}
 use Rattle.spec.specs.Motions.{times}
@@ -66,7 +66,7 @@ Draws p q bs = (t : Terminal) → Shows t p → Shows (feed t bs) q
 -- a terminal of a size, with any cells, its cursor anywhere, in or outside of a sequence
 pub record Sized (t : Terminal) (rows columns : ℕ) : Type 0 where
   pub height : length t.grid ≡ rows
-  pub width : All (λ (r : Row). length r ≡ columns) t.grid
+  pub width : AllByRecursion (λ (r : Row). length r ≡ columns) t.grid
 
 -- bytes that make every terminal of a size show a picture
 abbrev pub Paints : ℕ → ℕ → Picture → List ℕ → Type 0

@@ -1,6 +1,6 @@
 -- Rows of two pictures, mixed.
 use Rattle.std.proofs.Common.{◌≡◌, ℕ, zero, suc, ◌+◌, ◌<◌, Bool, true, false, eqb, List, [], ◌∷◌, length, get_or, set, sym, refl, ap, ◌∙◌, ⊎_elim, arith}
-use Rattle.std.specs.List.{AllByRecursion as All}
+use Rattle.std.specs.List.{AllByRecursion}
 use Rattle.std.proofs.lemmas.Bool.{cases_Bool, eqb-true, eq-eqb, and_parts, and_from, cond_both}
 use Rattle.spec.specs.Screen.{Row}
 use Rattle.spec.specs.Promises.{same_row, rows_cost}
@@ -65,7 +65,7 @@ mixed_height p [] vs l = refl
 mixed_height p (u ∷ us) [] l = absurd (omega arith)
 mixed_height p (u ∷ us) (v ∷ vs) l = ap suc (mixed_height (λ k. p (suc k)) us vs (omega arith))
 
-mixed_width : (c : ℕ) (p : ℕ → Bool) (us vs : List Row) → All (λ (r : Row). length r ≡ c) us → All (λ (r : Row). length r ≡ c) vs → All (λ (r : Row). length r ≡ c) (mixed p us vs)
+mixed_width : (c : ℕ) (p : ℕ → Bool) (us vs : List Row) → AllByRecursion (λ (r : Row). length r ≡ c) us → AllByRecursion (λ (r : Row). length r ≡ c) vs → AllByRecursion (λ (r : Row). length r ≡ c) (mixed p us vs)
 unfolding mixed
 mixed_width c p [] vs x y = tt
 mixed_width c p (u ∷ us) [] x y = tt

@@ -1,7 +1,7 @@
 -- What an editor's screen shows can be drawn.
 use Rattle.std.proofs.Common.{◌≡◌, ℕ, zero, suc, ◌+◌, ◌-◌, ◌/◌, ◌%◌, ◌<◌, ◌≤◌, true, cond, eqb, ltb, leb, List, [], ◌∷◌, ◌++◌, map, length, replicate, refl, ap, ◌∙◌, ⊎_elim, arith, length-append, length-take}
 use lib.ListN.{length-replicate}
-use Rattle.std.specs.List.{AllByRecursion as All}
+use Rattle.std.specs.List.{AllByRecursion}
 use Rattle.std.proofs.ByRecursion.{All-append, All-take}
 use Rattle.std.proofs.lemmas.Bool.{cases_lt, lt-ltb, le-ltb, le-leb, and_from, cond_both}
 use Rattle.spec.specs.Bytes.{ascii, tab, is_printable}
@@ -85,7 +85,7 @@ unfolding text_rows
 length_texts e zero l = refl
 length_texts e (suc n) l = ap suc (length_texts e n (suc l))
 
-all_texts : (P : Row → Type 0) (e : Ed) → ((l : ℕ) → P (text_row e l)) → (n l : ℕ) → All P (text_rows e n l)
+all_texts : (P : Row → Type 0) (e : Ed) → ((l : ℕ) → P (text_row e l)) → (n l : ℕ) → AllByRecursion P (text_rows e n l)
 unfolding text_rows
 all_texts P e p zero l = tt
 all_texts P e p (suc n) l = (p l, all_texts P e p n (suc l))

@@ -1,6 +1,6 @@
 -- Bytes that lead from one picture to another, row by row.
 use Rattle.std.specs.Prelude.{◌≡◌, ℕ, ◌+◌, ◌-◌, ◌<◌, ◌≤◌, Bool, cond, ◌&&◌, List, [], ◌++◌, length, take, drop, replicate, MatchBool, ◌==◌, slice_index_or, slice_range, slice_set}
-use Rattle.std.specs.List.{AllByRecursion as All}
+use Rattle.std.specs.List.{AllByRecursion}
 use Rattle.spec.specs.Editor.{Ed}
 use Rattle.spec.specs.Screen.{Row, Picture, blank, picture}
 use Rattle.spec.specs.Promises.{Draws, Sees}
@@ -11,12 +11,12 @@ showing g r c = record { rows = g; cursor_row = r; cursor_column = c }
 
 pub record Rectangle (rows columns : ℕ) (g : List Row) : Type 0 where
   pub height : length g ≡ rows
-  pub width : All (λ (r : Row). length r ≡ columns) g
+  pub width : AllByRecursion (λ (r : Row). length r ≡ columns) g
 
 -- a picture that can be drawn on a screen of a size of which a terminal can be told
 pub record Drawable (rows columns : ℕ) (p : Picture) : Type 0 where
   pub rectangle : Rectangle rows columns p.rows
-  pub printable : All Printable p.rows
+  pub printable : AllByRecursion Printable p.rows
   pub row_within : p.cursor_row < rows
   pub column_within : p.cursor_column < columns
   pub few_rows : rows ≤ 9999

@@ -1,6 +1,6 @@
 -- What is sent: the bytes of a cursor move and of a clear.
 use Rattle.std.specs.Prelude.{◌≡◌, ℕ, ◌+◌, true, cond, List, [], ◌∷◌, ◌++◌, length, take, drop, ◌==◌}
-use Rattle.std.specs.List.{AllByRecursion as All}
+use Rattle.std.specs.List.{AllByRecursion}
 use Rattle.spec.specs.Bytes.{ascii, escape, is_printable}
 use Rattle.spec.specs.Screen.{Row, decimal}
 
@@ -21,7 +21,7 @@ clear_bytes = escape ∷ ascii "[" ∷ ascii "K" ∷ []
 
 -- every cell can be written
 abbrev pub Printable : Row → Type 0
-Printable cs = All (λ (c : ℕ). is_printable c ≡ true) cs
+Printable cs = AllByRecursion (λ (c : ℕ). is_printable c ≡ true) cs
 
 -- a row with the cells from c on replaced by s
 abbrev pub overwritten : Row → ℕ → Row → Row
