@@ -1,5 +1,5 @@
 -- Which update of a row is chosen.
-use Rattle.std.specs.Prelude.{◌≡◌, ℕ, ◌+◌, ◌-◌, ◌≤◌, Bool, cond, length, drop, replicate, slice_index, slice_index_or}
+use Rattle.std.specs.Prelude.{◌≡◌, ℕ, ◌+◌, ◌-◌, ◌≤◌, Bool, cond, length, drop, replicate, slice_index}
 use Rattle.spec.specs.Screen.{Row, blank}
 use Rattle.terminals.specs.Drawing.{Updates}
 
@@ -10,7 +10,7 @@ extent b clear = b + cond clear 3 0
 -- It begins where the rows first differ, and no run and no clear is shorter.
 pub record Shortest (old new : Row) (a b : ℕ) (clear : Bool) : Type 0 where
   pub updates : Updates old new a b clear
-  pub differs : slice_index_or old a 0 ≡ slice_index new a → ⊥
+  pub differs : slice_index old a ≡ slice_index new a → ⊥
   pub no_shorter_run : (k : ℕ) → drop k old ≡ drop k new → extent b clear ≤ k
   pub no_shorter_clear : (k : ℕ) → a ≤ k → drop k new ≡ replicate (length new - k) blank → extent b clear ≤ k + 3
 
