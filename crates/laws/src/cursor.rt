@@ -3,31 +3,23 @@ ghost use Rattle.spec.specs.Promises.{AlwaysStands, InSight};
 ghost use Rattle.spec.specs.Laws.{PendingIsHarmless, CursorWitnesses};
 
 /// The cursor is always within the text, and outside of inserting on a byte that is no line end or in an empty line.
-pub fn always_stands() -> u8
+pub fn always_stands()
     ensures { AlwaysStands }
-{
-    0
-}
+{}
 
 /// The cursor's line is one of the text rows on the screen, its column one of the columns.
-pub fn in_sight() -> u8
+pub fn in_sight()
     ensures { InSight }
-{
-    0
-}
+{}
 
 /// Outside of inserting, a key that only goes on with a command, escape, and a command that can't be done
 /// change nothing but the command that is pending.
-pub fn pending_is_harmless() -> u8
+pub fn pending_is_harmless()
     ensures { PendingIsHarmless }
-{
-    0
-}
+{}
 
 /// Reachable editors in which the theorems above have something to say: the cursor moved off a byte that
 /// went, the view moved both ways, and an operator pending with two counts.
-pub fn witnesses() -> u8
+pub fn witnesses()
     ensures { CursorWitnesses }
-{
-    0
-}
+{}

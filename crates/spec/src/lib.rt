@@ -5,8 +5,6 @@
 ghost use Rattle.spec.specs.Worked.{WorkedKeys};
 
 /// The worked keys hold of the definitions.
-pub fn worked_keys() -> u8
+pub fn worked_keys()
     ensures { WorkedKeys }
-{
-    0
-}
+{}

@@ -5,43 +5,31 @@
 ghost use Rattle.terminals.specs.Drawing.{Moves, Runs, Clears, InSequence, NothingToSend, PicturesDrawable};
 
 /// A move leads to the same picture with the cursor elsewhere.
-pub fn moves() -> u8
+pub fn moves()
     ensures { Moves }
-{
-    0
-}
+{}
 
 /// A run of printable bytes stands in the cursor's row, from the cursor on.
-pub fn runs() -> u8
+pub fn runs()
     ensures { Runs }
-{
-    0
-}
+{}
 
 /// A clear makes the rest of the cursor's row blank.
-pub fn clears() -> u8
+pub fn clears()
     ensures { Clears }
-{
-    0
-}
+{}
 
 /// What is sent in two parts leads from the first picture to the last.
-pub fn in_sequence() -> u8
+pub fn in_sequence()
     ensures { InSequence }
-{
-    0
-}
+{}
 
 /// Sending nothing is right exactly if the pictures are equal, cursors included.
-pub fn nothing_to_send() -> u8
+pub fn nothing_to_send()
     ensures { NothingToSend }
-{
-    0
-}
+{}
 
 /// What an editor's screen shows can be drawn.
-pub fn pictures_drawable() -> u8
+pub fn pictures_drawable()
     ensures { PicturesDrawable }
-{
-    0
-}
+{}
