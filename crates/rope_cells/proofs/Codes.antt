@@ -2,8 +2,8 @@
 use Rattle.std.proofs.Common.{◌≡◌, ℕ, suc, ◌+◌, ◌/◌, ◌%◌, ◌<◌, ◌≤◌, false, ltb, ◌≢◌, List, [], ◌++◌, length, get_or, sym, refl, ap, ◌∙◌, subst, ⊎_elim, arith}
 use Rattle.cells.specs.Tree.{none, Val, nodes}
 use Rattle.cells.specs.Have.{Lent}
-use Rattle.cells.specs.Steps.{Reading, WordRead}
-use Rattle.ropes.specs.Rope.{Rope, empty, leaf, node, bytes, size, height, cells, Whole}
+use Rattle.cells.specs.Steps.{Reading, WordRead, WordsRead}
+use Rattle.ropes.specs.Rope.{Rope, empty, leaf, node, bytes, size, height, cells, Octets, Whole}
 use Rattle.ropes.specs.Layout.{sums_of, sum_at, pack, digit, node_tag, leaf_data, node_data}
 use Rattle.ropes.proofs.Balance.{inner_some}
 use Rattle.ropes.proofs.Packs.{digit_pack}
@@ -13,6 +13,7 @@ use Rattle.std.proofs.lemmas.Bool.{cases_lt}
 use Rattle.rope_cells.specs.Coded.{code, tag_of}
 use Rattle.rope_cells.specs.Packed.{SumsBack}
 use Rattle.rope_cells.specs.Lending.{Lends, LendsSome, LendsNode, LendsChildren, ShapeIs, SummaryIs}
+use Rattle.rope_cells.specs.Leaves.{LendsLeaf}
 use Rattle.rope_cells.proofs.Packings.{leaf_first, left_sum}
 
 pub nodes_code : (t : Rope) → nodes (code t) ≡ cells t
@@ -142,3 +143,10 @@ pub sum_leaf : (t : Rope) (k w v : ℕ) → Whole t → 1 ≤ height t → w ≡
 sum_leaf empty k w v ok some is low e = absurd (omega arith)
 sum_leaf (leaf b) k w v ok some is low e = e ∙ (ap (λ z. digit z k) is ∙ digit_pack (sums_of b) k (sums_digits b (omega (arith, ok.1))))
 sum_leaf (node l r) k w v ok some is low e = absurd (low (ap (λ z. z % 64) is ∙ node_tag_low _))
+
+-- the data words of a leaf
+pub leaf_read : (m : List ℕ) (p : ℕ) (w : List ℕ) → WordsRead m p w → (x : LendsLeaf m p) → (length x.xs ≤ 48) × Octets x.xs × (w ≡ leaf_data x.xs)
+leaf_read m p w read x =
+    let ok : Whole (leaf x.xs) = subst Whole x.is x.lends.whole in
+    let lent : Lent m p (code (leaf x.xs)) = subst (λ t. Lent m p (code t)) x.is x.lends.lent in
+    (ok.1, ok.2, read.are none none (leaf_data x.xs) lent.stands)

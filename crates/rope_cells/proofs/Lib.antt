@@ -1,3 +1,2 @@
 pub mod Packings
 pub mod Codes
-pub mod Leavings

@@ -1,12 +1,13 @@
 -- What is packed and unpacked, as lists.
-use Rattle.std.proofs.Common.{◌≡◌, ℕ, zero, suc, ◌+◌, ◌-◌, ◌*◌, ◌/◌, ◌%◌, ◌<◌, ◌≤◌, max, List, [], ◌∷◌, ◌++◌, length, get_or, sym, refl, ap, ◌∙◌, ⊎_elim, arith, length-append}
+use Rattle.std.proofs.Common.{◌≡◌, ℕ, zero, suc, ◌+◌, ◌-◌, ◌*◌, ◌/◌, ◌%◌, ◌<◌, ◌≤◌, max, List, [], ◌∷◌, ◌++◌, length, get_or, take, drop, sym, refl, ap, ◌∙◌, ⊎_elim, arith, length-append, length-take}
 use Rattle.std.proofs.lemmas.Bool.{cases_lt}
-use Rattle.std.proofs.lemmas.List.{ext_get_or, get_or_append_left, get_or-append_right}
-use Rattle.ropes.specs.Rope.{Rope, bytes, height, leaf_max}
+use Rattle.std.proofs.lemmas.List.{ext_get_or, get_or_append_left, get_or-append_right, get_or_push, get_or-take, get_or-drop}
+use Rattle.std.specs.Int.{w32, to_le_bytes}
+use Rattle.ropes.specs.Rope.{Rope, bytes, height, leaf_max, Octets}
 use Rattle.ropes.specs.Layout.{sums_of, sum_at, pack, digit, byte_of, word_at, node_tag, leaf_data, node_data}
 use Rattle.ropes.proofs.Packs.{digit_pack, byte_of_word_at, length_words_from, get_or_words_from}
-use Rattle.ropes.proofs.Sums.{used, length_sums, sum_unused, sums_digits, sum_append}
-use Rattle.rope_cells.specs.Packed.{SumsBack, BytesBack, NodeData}
+use Rattle.ropes.proofs.Sums.{used, length_sums, sum_unused, sum_first, sums_digits, sum_append}
+use Rattle.rope_cells.specs.Packed.{SumsBack, NodeData}
 
 pub zeros : (j : ℕ) → ◌≡◌ {A = ℕ} (get_or (0 ∷ 0 ∷ 0 ∷ 0 ∷ 0 ∷ 0 ∷ []) j 0) 0
 zeros zero = refl
@@ -51,17 +52,44 @@ leaf_data_is w xs long first each = ext_get_or 0 w (leaf_data xs) (long ∙ sym 
     go zero h = first ∙ sym (leaf_first xs)
     go (suc j) h = let e : suc j ≡ 1 + j = omega arith in rw e (each j (omega arith) ∙ sym (leaf_word xs j (omega arith)))
 
-pub bytes_back : (w ys : List ℕ) → length ys ≡ leaf_max → ((j : ℕ) → j < leaf_max → get_or ys j 0 ≡ byte_of (get_or w (1 + j / 4) 0) (j % 4)) → BytesBack w ys
-bytes_back w ys long each =
-    record {
-      long = long;
-      each = λ xs o is i h.
-          let at : 4 * (i / 4) + i % 4 ≡ i = omega arith in
-          each i h
-          ∙ (ap (λ z. byte_of (get_or z (1 + i / 4) 0) (i % 4)) is
-          ∙ (ap (λ z. byte_of z (i % 4)) (leaf_word xs (i / 4) (omega arith))
-          ∙ (byte_of_word_at xs o (i / 4) (i % 4) (omega arith) ∙ ap (λ z. get_or xs z 0) at)));
-    }
+-- byte i of a word, as `to_le_bytes` gives it
+le_byte : (n i : ℕ) → i < 4 → get_or (to_le_bytes w32 n) i 0 ≡ byte_of n i
+unfolding byte_of
+le_byte n zero h = omega arith
+le_byte n (suc zero) h = refl
+le_byte n (suc (suc zero)) h = refl
+le_byte n (suc (suc (suc zero))) h = refl
+le_byte n (suc (suc (suc (suc i)))) h = absurd (omega arith)
+
+-- the bytes of these words, so far, and one more
+pub one_more : (w ys : List ℕ) (k i x : ℕ)
+    → ((j : ℕ) → j < length ys → get_or ys j 0 ≡ byte_of (get_or w (j / 4) 0) (j % 4)) → length ys ≡ 4 * k + i → i < 4 → x ≡ get_or (to_le_bytes w32 (get_or w k 0)) i 0
+    → (j : ℕ) → j < length (ys ++ x ∷ []) → get_or (ys ++ x ∷ []) j 0 ≡ byte_of (get_or w (j / 4) 0) (j % 4)
+one_more w ys k i x before long lt is j h =
+    ⊎_elim
+    (λ (q : j < length ys). get_or_append_left ys (x ∷ []) 0 j q ∙ before j q)
+    (λ (q : length ys ≤ j).
+    let e : length ys ≡ j = omega (arith, length-append ys (x ∷ [])) in
+    let a : k ≡ j / 4 = omega arith in
+    let b : i ≡ j % 4 = omega arith in
+    get_or_push ys x 0 j e ∙ (is ∙ (le_byte (get_or w k 0) i lt ∙ (ap (λ z. byte_of (get_or w z 0) i) a ∙ ap (byte_of (get_or w (j / 4) 0)) b))))
+    (cases_lt j (length ys))
+
+-- the bytes of a leaf's words, as many as its tag says
+pub bytes_back : (w ys xs : List ℕ) → ((j : ℕ) → j < length ys → get_or ys j 0 ≡ byte_of (get_or (take 12 (drop 1 w)) (j / 4) 0) (j % 4)) → length ys ≡ leaf_max
+    → length xs ≤ leaf_max → Octets xs → w ≡ leaf_data xs → take (digit (get_or w 0 0) 0) ys ≡ xs
+bytes_back w ys xs each long few o is =
+    let tag : digit (get_or w 0 0) 0 ≡ length xs =
+    ap (λ z. digit (get_or z 0 0) 0) is ∙ (ap (λ z. digit z 0) (leaf_first xs) ∙ (digit_pack (sums_of xs) 0 (sums_digits xs (omega arith)) ∙ sum_first xs)) in
+    let n = length-take (length xs) ys in
+    rw tag (ext_get_or 0 (take (length xs) ys) xs (omega arith)
+    (λ i h.
+    let lt : i < length xs = omega arith in
+    let at : 4 * (i / 4) + i % 4 ≡ i = omega arith in
+    get_or-take (length xs) ys i 0 lt
+    ∙ (each i (omega arith)
+    ∙ (ap (λ z. byte_of z (i % 4)) (get_or-take 12 (drop 1 w) (i / 4) 0 (omega arith) ∙ (get_or-drop 1 w (i / 4) 0 ∙ (ap (λ z. get_or z (1 + i / 4) 0) is ∙ leaf_word xs (i / 4) (omega arith))))
+    ∙ (byte_of_word_at xs o (i / 4) (i % 4) (omega arith) ∙ ap (λ z. get_or xs z 0) at)))))
 
 length_node_data : (u v : Rope) → length (node_data u v) ≡ 13
 unfolding node_data

@@ -13,11 +13,6 @@ pub record LeafSums (s : List ℕ) : Type 0 where
 pub record SumsBack (tag : ℕ) (s : List ℕ) : Type 0 where
   pub are : (xs : List ℕ) → length xs ≤ leaf_max → tag ≡ pack (sums_of xs) → s ≡ sums_of xs
 
--- ys are the bytes of the leaf with these data, zeros behind
-pub record BytesBack (w ys : List ℕ) : Type 0 where
-  pub long : length ys ≡ leaf_max
-  pub each : (xs : List ℕ) → Octets xs → w ≡ leaf_data xs → (i : ℕ) → i < leaf_max → slice_index ys i ≡ slice_index xs i
-
 -- sums of two ropes that stand side by side
 pub record Addable (l r : List ℕ) : Type 0 where
   pub each : (k : ℕ) → slice_index l k + slice_index r k < 4294967296

@@ -1,48 +1,40 @@
-//! Reading leaves, and making one or two of two.
-ghost use Rattle.std.specs.Prelude.{◌≡◌, ℕ, ◌+◌, ◌<◌, ◌≤◌, length};
-ghost use Rattle.rope_cells.specs.Leaves.{LendsLeaf, LeafIs, LeafWritten, Joined};
+//! Reading leaves, and the bytes of two of them as one.
+ghost use Rattle.std.specs.Prelude.{◌≡◌, ℕ, ◌+◌, ◌≤◌, ◌++◌};
+ghost use Rattle.arrayvec.specs.ArrayVec.{array_vec_len};
+ghost use Rattle.rope_cells.specs.Leaves.{LendsLeaf};
 
-use crate::packed::{LEAF_MAX, unpack};
+use crate::packed::unpack;
+use arrayvec::ArrayVec;
 use cells::{Ref, data_words};
 use words::Words;
 
-/// The bytes of a leaf; behind them are zeros.
-#[derive(Clone, Copy)]
-pub struct Leaf {
-    pub len: usize,
-    pub bytes: [u8; 48],
-}
+/// How many bytes a leaf has at least beside other leaves.
+pub const LEAF_MIN: usize = 24;
 
-/// The leaf `p`.
+/// How many bytes a leaf has at most.
+pub const LEAF_MAX: usize = 48;
+
+/// The bytes of a leaf.
+pub type Leaf = ArrayVec<u8, LEAF_MAX>;
+
+/// The bytes of the leaf `p`.
 pub fn read_leaf<W: Words>(words: &mut W, p: Ref) -> Leaf
     requires { LendsLeaf (W.Words.row words.old) p.0 }
-    ensures value { (x : LendsLeaf (W.Words.row words.old) p.0) → LeafIs result x.xs }
+    ensures value { (x : LendsLeaf (W.Words.row words.old) p.0) → result.items ≡ x.xs }
+    ensures few { array_vec_len result ≤ 48 }
     ensures same { W.Words.row words.new ≡ W.Words.row words.old }
     ensures touches { W.touched words.new ≤ W.touched words.old + 13 }
 {
-    let data = data_words(words, p);
-    Leaf {
-        len: (data[0] % 64) as usize,
-        bytes: unpack(data),
-    }
-}
-
-/// Writes the bytes of a leaf, and the zeros behind them, from `at` on.
-fn write_leaf(into: &mut [u8], at: usize, leaf: &Leaf)
-    requires at_in_bounds { at + 48 ≤ length into.old }
-    requires bytes_len { length leaf.now.bytes ≡ 48 }
-    ensures { LeafWritten into.old into.new at leaf.now }
-{
-    into[at..at + LEAF_MAX].copy_from_slice(&leaf.bytes);
+    unpack(&data_words(words, p))
 }
 
 /// The bytes of two leaves, one behind the other.
-pub fn joined(a: Leaf, b: Leaf) -> [u8; 96]
-    requires { a.len ≤ 48 }
-    ensures { Joined a b result }
+pub fn joined(a: &Leaf, b: &Leaf) -> ArrayVec<u8, 96>
+    ensures { result.items ≡ a.now.items ++ b.now.items }
 {
-    let mut all = [0; 96];
-    write_leaf(&mut all, 0, &a);
-    write_leaf(&mut all, a.len, &b);
+    let mut all = ArrayVec::new();
+    for byte in a.iter().chain(b.iter()) {
+        all.push(*byte);
+    }
     all
 }

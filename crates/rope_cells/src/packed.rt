@@ -1,14 +1,14 @@
 //! The data words of a leaf: its sums as the digits of one word, and its bytes four to a word.
-ghost use Rattle.std.specs.Prelude.{◌≡◌, ℕ, ◌+◌, ◌*◌, ◌<◌, ◌≤◌, length, slice_index};
-ghost use Rattle.ropes.specs.Rope.{Octets};
+ghost use Rattle.std.specs.Prelude.{◌≡◌, ℕ, ◌+◌, ◌*◌, ◌<◌, ◌≤◌, List, length, slice_index};
+ghost use Rattle.arrayvec.specs.ArrayVec.{array_vec_len};
+ghost use Rattle.ropes.specs.Rope.{leaf_max, Octets};
 ghost use Rattle.ropes.specs.Layout.{word, word_at, byte_of as nth-byte, pack as packed, digit, leaf_data};
-ghost use Rattle.rope_cells.specs.Packed.{LeafSums, SumsBack, BytesBack, Addable, NodeData};
+ghost use Rattle.rope_cells.specs.Packed.{LeafSums, SumsBack, Addable, NodeData};
 
+use crate::leaves::Leaf;
 use crate::sums::{Sums, USED, sums_of};
+use arrayvec::ArrayVec;
 use cells::Data;
-
-/// How many bytes a leaf has at most.
-pub const LEAF_MAX: usize = 48;
 
 /// The first data word of a leaf with these sums.
 fn leaf_tag(sums: Sums) -> u32
@@ -97,15 +97,19 @@ pub fn byte_of(word: u32, j: usize) -> u8
     }
 }
 
-/// The bytes of the leaf with these data, zeros behind.
-pub fn unpack(data: Data) -> [u8; 48]
-    ensures { BytesBack «data» result }
+/// The bytes of the leaf with these data.
+pub fn unpack(data: &Data) -> Leaf
+    ensures value { (xs : List ℕ) → length xs ≤ leaf_max → Octets xs → data.now ≡ leaf_data xs → result.items ≡ xs }
+    ensures few { array_vec_len result ≤ 48 }
 {
-    let mut bytes = [0; 48];
-    for i in 0..LEAF_MAX {
-        bytes[i] = byte_of(data[1 + i / 4], i % 4);
+    let mut leaf = ArrayVec::new();
+    for word in &data[1..] {
+        for byte in word.to_le_bytes() {
+            leaf.push(byte);
+        }
     }
-    bytes
+    leaf.truncate(digit_of(data[0], 0) as usize);
+    leaf
 }
 
 /// The data words of a node of this height whose children have these sums.

@@ -1,17 +1,15 @@
 //! What a rope's cell says of it.
 ghost use Rattle.std.specs.Prelude.{◌≡◌, ℕ, ◌+◌, ◌<◌, ◌≤◌};
 ghost use Rattle.ropes.specs.Rope.{bytes, size};
-ghost use Rattle.ropes.specs.Layout.{sums_of, sum_at};
+ghost use Rattle.ropes.specs.Layout.{sums_of};
 ghost use Rattle.rope_cells.specs.Coded.{tag_of as first_word};
 ghost use Rattle.rope_cells.specs.Lending.{Lends, LendsSome, LendsNode, LendsChildren, ShapeIs, SummaryIs};
 
+use crate::leaves::LEAF_MIN;
 use crate::packed::{digit_of, leaf_sums};
-use crate::sums::{Sum, Sums, USED};
+use crate::sums::{Bytes, Sum, Sums, USED};
 use cells::{Ref, data_word};
 use words::Words;
-
-/// How many bytes a leaf has at least beside other leaves.
-pub const LEAF_MIN: u32 = 24;
 
 /// The lowest digit of a node's first data word. A leaf's is its length.
 const NODE: u32 = 63;
@@ -63,7 +61,7 @@ pub fn shape_of<W: Words>(words: &mut W, p: Ref) -> Shape
     } else {
         Shape {
             height: 1,
-            small: tag % 64 < LEAF_MIN,
+            small: tag % 64 < LEAF_MIN as u32,
         }
     }
 }
@@ -116,22 +114,20 @@ pub fn summary_of<W: Words>(words: &mut W, p: Ref) -> Summary
     }
 }
 
-/// The sum at place `k` of the left child of the node `p`.
-pub fn left_sum<W: Words>(words: &mut W, p: Ref, k: usize) -> u32
-    requires node { LendsChildren (W.Words.row words.old) p.0 }
-    requires place { k < 6 }
-    ensures value { (x : LendsChildren (W.Words.row words.old) p.0) → result ≡ sum_at (bytes x.left) k }
+/// The sum of the left child of the node `p`.
+pub fn left_sum<S: Sum, W: Words>(words: &mut W, p: Ref) -> u32
+    requires { LendsChildren (W.Words.row words.old) p.0 }
+    ensures value { (x : LendsChildren (W.Words.row words.old) p.0) → result ≡ S.Sum.sums (bytes x.left) }
     ensures same { W.Words.row words.new ≡ W.Words.row words.old }
     ensures touches { W.touched words.new ≤ W.touched words.old + 1 }
 {
-    data_word(words, p, 7 + k)
+    data_word(words, p, 7 + S::PLACE)
 }
 
-/// The sum at place `k` of the rope of `p`.
-pub fn total<W: Words>(words: &mut W, p: Ref, k: usize) -> u32
-    requires rope { Lends (W.Words.row words.old) p.0 }
-    requires place { k < 6 }
-    ensures value { (x : Lends (W.Words.row words.old) p.0) → result ≡ sum_at (bytes x.rope) k }
+/// The sum of all bytes of the rope of `p`.
+pub fn sum<S: Sum, W: Words>(words: &mut W, p: Ref) -> u32
+    requires { Lends (W.Words.row words.old) p.0 }
+    ensures value { (x : Lends (W.Words.row words.old) p.0) → result ≡ S.Sum.sums (bytes x.rope) }
     ensures same { W.Words.row words.new ≡ W.Words.row words.old }
     ensures touches { W.touched words.new ≤ W.touched words.old + 2 }
 {
@@ -140,9 +136,9 @@ pub fn total<W: Words>(words: &mut W, p: Ref, k: usize) -> u32
     }
     let tag = tag_of(words, p);
     if tag % 64 == NODE {
-        data_word(words, p, 1 + k)
+        data_word(words, p, 1 + S::PLACE)
     } else {
-        digit_of(tag, k)
+        digit_of(tag, S::PLACE)
     }
 }
 
@@ -153,15 +149,5 @@ pub fn len<W: Words>(words: &mut W, p: Ref) -> u32
     ensures same { W.Words.row words.new ≡ W.Words.row words.old }
     ensures touches { W.touched words.new ≤ W.touched words.old + 2 }
 {
-    total(words, p, 0)
-}
-
-/// The sum of all bytes of the rope of `p`.
-pub fn sum<S: Sum, W: Words>(words: &mut W, p: Ref) -> u32
-    requires { Lends (W.Words.row words.old) p.0 }
-    ensures value { (x : Lends (W.Words.row words.old) p.0) → result ≡ S.Sum.sums (bytes x.rope) }
-    ensures same { W.Words.row words.new ≡ W.Words.row words.old }
-    ensures touches { W.touched words.new ≤ W.touched words.old + 2 }
-{
-    total(words, p, S::index())
+    sum::<Bytes, W>(words, p)
 }

@@ -16,24 +16,23 @@ pub const USED: usize = 2;
 pub trait Sum {
     ghost sums: { List ℕ → ℕ };
 
-    ghost place: { ℕ };
+    ghost PLACE: { ℕ };
+
+    /// Where the sum stands in a cell.
+    const PLACE: usize;
 
     /// The sum of these bytes.
     fn of(part: &[u8]) -> u32
         requires { length part.now < 2 ^ 32 }
         ensures { result ≡ sums part.now };
 
-    /// At which place the sum stands.
-    fn index() -> usize
-        ensures { result ≡ place };
-
     ghost whole: { (a b : List ℕ) → sums (a ++ b) ≡ sums a + sums b };
 
     ghost small: { (a : List ℕ) → sums a ≤ length a };
 
-    ghost stands: { (a : List ℕ) → sum_at a place ≡ sums a };
+    ghost stands: { (a : List ℕ) → sum_at a PLACE ≡ sums a };
 
-    ghost known: { place < 4 };
+    ghost known: { PLACE < 4 };
 }
 
 /// How many bytes there are.
@@ -45,7 +44,9 @@ pub struct LineEnds;
 impl Sum for Bytes {
     ghost sums = { λ a. length a };
 
-    ghost place = { 0 };
+    ghost PLACE = { 0 };
+
+    const PLACE: usize = 0;
 
     ghost whole = { λ a b. length-append a b };
 
@@ -58,16 +59,14 @@ impl Sum for Bytes {
     fn of(part: &[u8]) -> u32 {
         part.len() as u32
     }
-
-    fn index() -> usize {
-        0
-    }
 }
 
 impl Sum for LineEnds {
     ghost sums = { newlines };
 
-    ghost place = { 1 };
+    ghost PLACE = { 1 };
+
+    const PLACE: usize = 1;
 
     ghost whole = { λ a b. newlines_append a b };
 
@@ -85,10 +84,6 @@ impl Sum for LineEnds {
             }
         }
         n
-    }
-
-    fn index() -> usize {
-        1
     }
 }
 

@@ -1,17 +1,12 @@
-use Rattle.std.proofs.Common.{◌<◌, ◌≢◌, length, ◌∙◌, arith, length-set, below_more}
-use Rattle.std.proofs.lemmas.List.{get_or-set_same, get_or-set_other}
-use Rattle.rope_cells.proofs.Packings.{bytes_back}
+use Rattle.std.proofs.Common.{get_or, ap, arith, rules}
+use Rattle.rope_cells.proofs.Packings.{one_more, bytes_back}
 use Rattle.rope_cells.proofs.packed.unpack.Goals as goal
 
-pub loop-i-preserved : goal.loop-i-preserved
-loop-i-preserved c =
-    let i = c.loop-i.i in
-    let w = c.loop-i.bytes in
-    let inv = c.loop-i.invariant in
-    let lt : i < length w = omega (arith, inv.0) in (
-      length-set w i _ ∙ inv.0,
-      below_more _ _ (λ j h. let ne : j ≢ i = omega arith in rw get_or-set_other (inv.1 j h)) (rw get_or-set_same c.byte_of.ensures),
-    )
+pub loop-byte-preserved : goal.loop-byte-preserved
+loop-byte-preserved c =
+    let inv = c.loop-byte.invariant in
+    (omega (arith, inv.0, c.push.ensures.len), rw c.push.ensures.items (one_more _ _ c.loop-word.word-index c.loop-byte.byte-index _ inv.1 inv.0 c.loop-byte-test.true (ap (λ z. get_or z c.loop-byte.byte-index 0) c.to_le_bytes-byte-items.ensures)))
 
-pub returns : goal.returns
-returns c = bytes_back c.args.data c.loop-i.bytes c.loop-i.invariant.0 (λ j h. c.loop-i.invariant.1 j (omega arith))
+pub returns-clause-value : goal.returns-clause-value
+returns-clause-value c = λ xs few o is.
+    rw c.truncate.ensures.items (rw c.digit_of.ensures (bytes_back c.args.data.now _ xs c.loop-word.invariant.1 (search rules) few o is))
