@@ -1,13 +1,15 @@
 -- What is packed and unpacked, as lists.
-use Rattle.std.proofs.Common.{◌≡◌, ℕ, zero, suc, ◌+◌, ◌-◌, ◌*◌, ◌/◌, ◌%◌, ◌<◌, ◌≤◌, max, List, [], ◌∷◌, ◌++◌, length, get_or, take, drop, sym, refl, ap, ◌∙◌, ⊎_elim, arith, length-append, length-take}
+use Rattle.std.proofs.Common.{◌≡◌, ℕ, zero, suc, ◌+◌, ◌-◌, ◌*◌, ◌/◌, ◌%◌, ◌<◌, ◌≤◌, max, List, [], ◌∷◌, ◌++◌, length, get_or, take, drop, sym, refl, ap, ◌∙◌, ⊎_elim, arith, length-append, length-take, length-drop, take_all}
 use Rattle.std.proofs.lemmas.Bool.{cases_lt}
-use Rattle.std.proofs.lemmas.List.{ext_get_or, get_or_append_left, get_or-append_right, get_or_push, get_or-take, get_or-drop}
+use Rattle.std.proofs.lemmas.List.{ext_get_or, get_or_append_left, get_or-append_right, get_or_push, get_or-take, get_or-drop, take-append-le, drop_all, append-nil}
 use Rattle.std.specs.Int.{w32, to_le_bytes}
 use Rattle.ropes.specs.Rope.{Rope, bytes, height, leaf_max, Octets}
 use Rattle.ropes.specs.Layout.{sums_of, sum_at, pack, digit, byte_of, word_at, node_tag, leaf_data, node_data}
 use Rattle.ropes.proofs.Packs.{digit_pack, byte_of_word_at, length_words_from, get_or_words_from}
 use Rattle.ropes.proofs.Sums.{used, length_sums, sum_unused, sum_first, sums_digits, sum_append}
-use Rattle.rope_cells.specs.Packed.{SumsBack, NodeData}
+use Rattle.rope_cells.specs.Packed.{SumsBack}
+use Rattle.rope_cells.specs.Lending.{SummaryIs}
+use Rattle.rope_cells.specs.declared.reading.Summary.{Summary}
 
 pub zeros : (j : ℕ) → ◌≡◌ {A = ℕ} (get_or (0 ∷ 0 ∷ 0 ∷ 0 ∷ 0 ∷ 0 ∷ []) j 0) 0
 zeros zero = refl
@@ -118,23 +120,24 @@ left_sum u v k =
     let f : (6 + k) - 6 ≡ k = omega arith in
     rw e (get_or-append_right (sums_of (bytes u ++ bytes v)) (sums_of (bytes u)) 6 (6 + k) 0 (length_sums (bytes u ++ bytes v)) (omega arith) ∙ ap (λ z. get_or (sums_of (bytes u)) z 0) f)
 
-pub node_data_is : (h : ℕ) (l r w : List ℕ) → length w ≡ 13 → get_or w 0 0 ≡ node_tag h → ((j : ℕ) → j < 6 → get_or w (1 + j) 0 ≡ get_or l j 0 + get_or r j 0)
-    → ((j : ℕ) → j < 6 → get_or w (7 + j) 0 ≡ get_or l j 0) → NodeData h l r w
-node_data_is h l r w long first both left =
-    record {
-      is = λ u v high is_l is_r. ext_get_or 0 w (node_data u v) (long ∙ sym (length_node_data u v)) (go u v high is_l is_r);
-    }
-  where
-    go : (u v : Rope) → h ≡ max (height u) (height v) + 1 → l ≡ sums_of (bytes u) → r ≡ sums_of (bytes v) → (i : ℕ) → i < length w → get_or w i 0 ≡ get_or (node_data u v) i 0
-    go u v high is_l is_r zero small = first ∙ (ap node_tag high ∙ sym (node_first u v))
-    go u v high is_l is_r (suc i) small =
-        let a : get_or l i 0 ≡ sum_at (bytes u) i = ap (λ z. get_or z i 0) is_l in
-        let b : get_or r i 0 ≡ sum_at (bytes v) i = ap (λ z. get_or z i 0) is_r in
-        let e : suc i ≡ 1 + i = omega arith in
-        ⊎_elim
-        (λ (k : i < 6). rw e (both i k ∙ (omega (arith, a, b, sum_append (bytes u) (bytes v) i) ∙ sym (node_sum u v i k))))
-        (λ (k : 6 ≤ i).
-        let f : suc i ≡ 7 + (i - 6) = omega arith in
-        let c : get_or l (i - 6) 0 ≡ sum_at (bytes u) (i - 6) = ap (λ z. get_or z (i - 6) 0) is_l in
-        rw f (left (i - 6) (omega arith) ∙ (c ∙ sym (left_sum u v (i - 6)))))
-        (cases_lt i 6)
+-- the data of a node of two ropes, by what is said of each
+pub node_data_is : (u v : Rope) (a b : Summary) (both : List ℕ) (m : ℕ) → SummaryIs u a → SummaryIs v b → m ≡ max a.height b.height → length both ≡ 6
+    → ((j : ℕ) → j < 6 → get_or both j 0 ≡ get_or a.sums j 0 + get_or b.sums j 0) → (63 + 64 * (m + 1)) ∷ (both ++ a.sums) ≡ node_data u v
+unfolding node_data node_tag
+node_data_is u v a b both m is_u is_v top long each =
+    let h : m ≡ max (height u) (height v) = top ∙ (ap (λ z. max z b.height) is_u.high ∙ ap (max (height u)) is_v.high) in
+    let e : both ≡ sums_of (bytes u ++ bytes v) = ext_get_or 0 both _ (long ∙ sym (length_sums (bytes u ++ bytes v)))
+    (λ j lt.
+    let p : get_or a.sums j 0 ≡ sum_at (bytes u) j = ap (λ z. get_or z j 0) is_u.sums in
+    let q : get_or b.sums j 0 ≡ sum_at (bytes v) j = ap (λ z. get_or z j 0) is_v.sums in
+    omega (arith, p, q, each j (omega arith), sum_append (bytes u) (bytes v) j)) in
+    ap (λ z. (63 + 64 * (z + 1)) ∷ (both ++ a.sums)) h
+    ∙ (ap (λ z. (63 + 64 * (max (height u) (height v) + 1)) ∷ (z ++ a.sums)) e
+    ∙ ap (λ z. (63 + 64 * (max (height u) (height v) + 1)) ∷ (sums_of (bytes u ++ bytes v) ++ z)) is_u.sums)
+
+-- two lists written over the two halves of a list behind its first element
+pub both_written : (n : ℕ) (a b rest : List ℕ) → length a ≡ n → length rest ≡ n → take n (a ++ rest) ++ (b ++ drop n (drop n (a ++ rest))) ≡ a ++ b
+both_written n a b rest long fits =
+    let front : take n (a ++ rest) ≡ a = take-append-le n a rest (omega arith) ∙ take_all n a (omega arith) in
+    let behind : drop n (drop n (a ++ rest)) ≡ [] = drop_all n (drop n (a ++ rest)) (omega (arith, length-drop n (a ++ rest), length-append a rest)) in
+    ap (λ z. z ++ (b ++ drop n (drop n (a ++ rest)))) front ∙ (ap (λ z. a ++ (b ++ z)) behind ∙ ap (λ z. a ++ z) (append-nil b))

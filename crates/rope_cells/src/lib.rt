@@ -7,8 +7,6 @@ mod reading;
 mod sums;
 
 pub use leaves::{LEAF_MAX, LEAF_MIN, Leaf, joined, read_leaf};
-pub use packed::{byte_of, digit_of, node_data, pack};
-pub use reading::{
-    Shape, Shapes, Summary, left_sum, len, shape_of, shapes_of, sum, summary_of, tag_of,
-};
+pub use packed::{node_data, pack};
+pub use reading::{Shape, Shapes, Summary, left_sum, len, shape_of, shapes_of, sum, summary_of};
 pub use sums::{Bytes, LineEnds, Sum, Sums};

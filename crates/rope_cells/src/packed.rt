@@ -1,14 +1,17 @@
 //! The data words of a leaf: its sums as the digits of one word, and its bytes four to a word.
-ghost use Rattle.std.specs.Prelude.{◌≡◌, ℕ, ◌+◌, ◌*◌, ◌<◌, ◌≤◌, List, length, slice_index};
+ghost use Rattle.std.specs.Prelude.{◌≡◌, ℕ, ◌+◌, ◌*◌, ◌<◌, ◌≤◌, max, List, length, slice_index};
 ghost use Rattle.arrayvec.specs.ArrayVec.{array_vec_len};
-ghost use Rattle.ropes.specs.Rope.{leaf_max, Octets};
-ghost use Rattle.ropes.specs.Layout.{word, word_at, byte_of as nth-byte, pack as packed, digit, leaf_data};
-ghost use Rattle.rope_cells.specs.Packed.{LeafSums, SumsBack, Addable, NodeData};
+ghost use Rattle.ropes.specs.Rope.{Rope, leaf_max, Octets};
+ghost use Rattle.ropes.specs.Layout.{word, word_at, pack as packed, digit, leaf_data, node_data as data_of_node};
+ghost use Rattle.rope_cells.specs.Packed.{LeafSums, SumsBack, Addable};
+ghost use Rattle.rope_cells.specs.Lending.{SummaryIs};
 
 use crate::leaves::Leaf;
+use crate::reading::{NODE, Summary};
 use crate::sums::{Sums, USED, sums_of};
 use arrayvec::ArrayVec;
 use cells::Data;
+use std::array;
 
 /// The first data word of a leaf with these sums.
 fn leaf_tag(sums: Sums) -> u32
@@ -84,19 +87,6 @@ pub fn pack(bytes: &[u8]) -> Data
     data
 }
 
-/// Byte `j` of a word.
-pub fn byte_of(word: u32, j: usize) -> u8
-    requires { j < 4 }
-    ensures { result ≡ nth-byte word j }
-{
-    match j {
-        0 => (word % 256) as u8,
-        1 => (word / 256 % 256) as u8,
-        2 => (word / 65536 % 256) as u8,
-        _ => (word / 16777216 % 256) as u8,
-    }
-}
-
 /// The bytes of the leaf with these data.
 pub fn unpack(data: &Data) -> Leaf
     ensures value { (xs : List ℕ) → length xs ≤ leaf_max → Octets xs → data.now ≡ leaf_data xs → result.items ≡ xs }
@@ -112,17 +102,16 @@ pub fn unpack(data: &Data) -> Leaf
     leaf
 }
 
-/// The data words of a node of this height whose children have these sums.
-pub fn node_data(height: u32, left: Sums, right: Sums) -> Data
-    requires height { height < 67108863 }
-    requires sums { Addable left right }
-    ensures { NodeData height left right result }
+/// The data words of a node of two ropes.
+pub fn node_data(left: Summary, right: Summary) -> Data
+    requires heights { max left.height right.height < 67108862 }
+    requires sums { Addable left.sums right.sums }
+    ensures { (u v : Rope) → SummaryIs u left → SummaryIs v right → result ≡ data_of_node u v }
 {
+    let both: Sums = array::from_fn(|k| left.sums[k] + right.sums[k]);
     let mut data = [0; 13];
-    data[0] = 63 + 64 * height;
-    for k in 0..6 {
-        data[1 + k] = left[k] + right[k];
-        data[7 + k] = left[k];
-    }
+    data[0] = NODE + 64 * (left.height.max(right.height) + 1);
+    data[1..7].copy_from_slice(&both);
+    data[7..].copy_from_slice(&left.sums);
     data
 }

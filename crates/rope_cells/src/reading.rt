@@ -12,7 +12,7 @@ use cells::{Ref, data_word};
 use words::Words;
 
 /// The lowest digit of a node's first data word. A leaf's is its length.
-const NODE: u32 = 63;
+pub const NODE: u32 = 63;
 
 /// What balancing asks of a rope.
 #[derive(Clone, Copy)]
@@ -36,7 +36,7 @@ pub struct Summary {
 }
 
 /// The first data word.
-pub fn tag_of<W: Words>(words: &mut W, p: Ref) -> u32
+fn tag_of<W: Words>(words: &mut W, p: Ref) -> u32
     requires { LendsSome (W.Words.row words.old) p.0 }
     ensures value { (x : LendsSome (W.Words.row words.old) p.0) → result ≡ first_word x.lends.rope }
     ensures same { W.Words.row words.new ≡ W.Words.row words.old }

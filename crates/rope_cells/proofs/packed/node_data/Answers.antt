@@ -1,10 +1,13 @@
-use Rattle.std.proofs.Common.{arith}
-use Rattle.ropes.specs.Layout.{node_tag}
-use Rattle.rope_cells.proofs.Packings.{node_data_is}
+use Rattle.std.proofs.Common.{rules, ◌≡◌, ℕ, ◌+◌, ◌*◌, ◌<◌, get_or, [], ◌∷◌, ap, ◌∙◌, refl}
+use Rattle.rope_cells.proofs.Packings.{both_written, node_data_is}
 use Rattle.rope_cells.proofs.packed.node_data.Goals as goal
 
 pub returns : goal.returns
-unfolding node_tag
-returns c =
-    let inv = c.loop-k.invariant in
-    node_data_is c.args.height c.args.left c.args.right c.loop-k.data inv.0 inv.1 (λ j h. inv.2 j (omega arith)) (λ j h. inv.3 j (omega arith))
+returns c = λ u v is_u is_v.
+    let both = c.from_fn-both.result in
+    let left = c.args.left.sums in
+    let each : (j : ℕ) → j < 6 → get_or both j 0 ≡ get_or left j 0 + get_or c.args.right.sums j 0 = search rules in
+    let long = c.from_fn-both.ensures.items.long in
+    let written = both_written 6 both left (0 ∷ 0 ∷ 0 ∷ 0 ∷ 0 ∷ 0 ∷ []) long refl in
+    rw c.copy_from_slice-2.ensures.after
+    (rw c.copy_from_slice.ensures.after (ap (λ z. (63 + 64 * (c.max.result + 1)) ∷ z) written ∙ node_data_is u v c.args.left c.args.right both c.max.result is_u is_v c.max.ensures long each))

@@ -1,9 +1,0 @@
-use Rattle.std.proofs.Common.{◌≡◌, ℕ, ◌+◌, ◌<◌, length, get_or}
-use Rattle.rope_cells.proofs.packed.node_data.Given as goal
-
-abbrev pub invariant-loop-k : goal.invariant-loop-k
-invariant-loop-k l =
-    (length l.data ≡ 13)
-    × (get_or l.data 0 0 ≡ get_or l.initial.data 0 0)
-    × ((j : ℕ) → j < l.k → get_or l.data (1 + j) 0 ≡ get_or l.left j 0 + get_or l.right j 0)
-    × ((j : ℕ) → j < l.k → get_or l.data (7 + j) 0 ≡ get_or l.left j 0)
