@@ -1,20 +1,21 @@
 -- What the data words of a rope's cell are.
-use Rattle.std.proofs.Common.{◌≡◌, ℕ, suc, ◌+◌, ◌/◌, ◌%◌, ◌<◌, ◌≤◌, false, ltb, ◌≢◌, List, [], ◌++◌, length, get_or, sym, refl, ap, ◌∙◌, subst, ⊎_elim, arith}
+use Rattle.std.proofs.Common.{◌≡◌, ℕ, zero, suc, ◌+◌, ◌-◌, ◌/◌, ◌%◌, ◌<◌, ◌≤◌, false, ltb, ◌≢◌, List, [], ◌∷◌, ◌++◌, length, get_or, sym, refl, ap, ◌∙◌, subst, ⊎_elim, arith, length-append}
 use Rattle.cells.specs.Tree.{none, Val, nodes}
 use Rattle.cells.specs.Have.{Lent}
 use Rattle.cells.specs.Steps.{Reading, WordRead, WordsRead}
-use Rattle.ropes.specs.Rope.{Rope, empty, leaf, node, bytes, size, height, cells, Octets, Whole}
-use Rattle.ropes.specs.Layout.{sums_of, sum_at, pack, digit, node_tag, leaf_data, node_data}
+use Rattle.ropes.specs.Rope.{Rope, empty, leaf, node, bytes, size, height, cells, is_small, leaf_max, Octets, Whole}
+use Rattle.ropes.specs.Layout.{sums_of, sum_at, pack, node_tag, leaf_data, node_data}
 use Rattle.ropes.proofs.Balance.{inner_some}
-use Rattle.ropes.proofs.Packs.{digit_pack}
-use Rattle.ropes.proofs.Sums.{used, length_sums, sum_unused, sum_small, sums_digits, sum_first}
-use Rattle.std.proofs.lemmas.List.{ext_get_or, get_or_append_left}
+use Rattle.ropes.proofs.Sums.{used, length_sums, sum_unused, sum_small, sum_first}
+use Rattle.std.proofs.lemmas.List.{ext_get_or, get_or_append_left, get_or-append_right}
 use Rattle.std.proofs.lemmas.Bool.{cases_lt}
 use Rattle.rope_cells.specs.Coded.{code, tag_of}
-use Rattle.rope_cells.specs.Packed.{SumsBack}
-use Rattle.rope_cells.specs.Lending.{Lends, LendsSome, LendsNode, LendsChildren, ShapeIs, SummaryIs}
+use Rattle.rope_cells.specs.Lending.{Lends, LendsSome, LendsNode, LendsChildren}
+use Rattle.rope_cells.specs.Tags.{TagIs}
+use Rattle.rope_cells.specs.declared.reading.Tag.TheVariants.{Leaf, Node}
 use Rattle.rope_cells.specs.Leaves.{LendsLeaf}
 use Rattle.rope_cells.proofs.Packings.{leaf_first, left_sum}
+pub use Rattle.rope_cells.proofs.Packings.{leaf_tag_low}
 
 pub nodes_code : (t : Rope) → nodes (code t) ≡ cells t
 nodes_code empty = refl
@@ -39,13 +40,6 @@ tag_read m p w read x = go x.lends.rope x.some x.lends.lent
     go (leaf b) h lent = read.is none none (leaf_data b) lent.stands ∙ leaf_first b
     go (node l r) h lent = read.is (code l) (code r) (node_data l r) lent.stands
 
--- the lowest digit of a leaf's tag is its length
-pub leaf_tag_low : (b : List ℕ) → length b ≤ 48 → pack (sums_of b) % 64 ≡ length b
-unfolding digit
-leaf_tag_low b h =
-    let e : digit (pack (sums_of b)) 0 ≡ length b = digit_pack (sums_of b) 0 (sums_digits b (omega arith)) ∙ sum_first b in
-    omega (arith, e)
-
 pub node_tag_low : (h : ℕ) → node_tag h % 64 ≡ 63
 unfolding node_tag
 node_tag_low h = omega arith
@@ -54,24 +48,30 @@ pub node_tag_high : (h : ℕ) → node_tag h / 64 ≡ h
 unfolding node_tag
 node_tag_high h = omega arith
 
-pub shape_node : (t : Rope) (w : ℕ) → Whole t → 1 ≤ height t → w ≡ tag_of t → w % 64 ≡ 63 → ShapeIs t (record { height = w / 64; small = false })
-shape_node empty w ok some is low = absurd (omega arith)
-shape_node (leaf b) w ok some is low = absurd (omega (arith, ap (λ z. z % 64) is, leaf_tag_low b ok.1, ok.1))
-shape_node (node l r) w ok some is low = record { high = ap (λ z. z / 64) is ∙ node_tag_high _; little = refl }
-
-pub shape_leaf : (t : Rope) (w : ℕ) → Whole t → 1 ≤ height t → w ≡ tag_of t → w % 64 ≢ 63 → ShapeIs t (record { height = 1; small = ltb (w % 64) 24 })
-shape_leaf empty w ok some is low = absurd (omega arith)
-shape_leaf (leaf b) w ok some is low = record { high = refl; little = ap (λ z. ltb z 24) (ap (λ z. z % 64) is ∙ leaf_tag_low b ok.1) }
-shape_leaf (node l r) w ok some is low = absurd (low (ap (λ z. z % 64) is ∙ node_tag_low _))
-
 pub node_some : (m : List ℕ) (p : ℕ) → LendsNode m p → LendsSome m p
 node_some m p x = record { lends = x.lends; some = omega (arith, x.high) }
 
 -- a tag tells a node from a leaf
-pub tag_high : (t : Rope) (w : ℕ) → Whole t → 1 ≤ height t → w ≡ tag_of t → w % 64 ≡ 63 → 2 ≤ height t
-tag_high empty w ok some is low = absurd (omega arith)
-tag_high (leaf b) w ok some is low = absurd (omega (arith, ap (λ z. z % 64) is, leaf_tag_low b ok.1, ok.1))
-tag_high (node l r) w ok some is low = omega (arith, inner_some l ok.0)
+pub tag_node : (t : Rope) (w : ℕ) → Whole t → 1 ≤ height t → w ≡ tag_of t → w % 64 ≡ 63 → TagIs t (Node (w / 64))
+tag_node empty w ok some is low = absurd (omega arith)
+tag_node (leaf b) w ok some is low = absurd (omega (arith, ap (λ z. z % 64) is, leaf_tag_low b ok.1, ok.1))
+tag_node (node l r) w ok some is low = (omega (arith, inner_some l ok.0), ap (λ z. z / 64) is ∙ node_tag_high _)
+
+pub tag_leaf : (t : Rope) (w : ℕ) (s : List ℕ) → Whole t → 1 ≤ height t → w ≡ tag_of t → w % 64 ≢ 63
+    → ((xs : List ℕ) → length xs ≤ leaf_max → w ≡ pack (sums_of xs) → s ≡ sums_of xs) → TagIs t (Leaf s)
+tag_leaf empty w s ok some is low back = absurd (omega arith)
+tag_leaf (leaf b) w s ok some is low back = (refl, back b ok.1 is)
+tag_leaf (node l r) w s ok some is low back = absurd (low (ap (λ z. z % 64) is ∙ node_tag_low _))
+
+pub small_leaf : (t : Rope) (s : List ℕ) → Whole t → height t ≡ 1 → s ≡ sums_of (bytes t) → ltb (get_or s 0 0) 24 ≡ is_small t
+small_leaf empty s ok low is = absurd (omega arith)
+small_leaf (leaf b) s ok low is = ap (λ z. ltb (get_or z 0 0) 24) is ∙ ap (λ z. ltb z 24) (sum_first b)
+small_leaf (node l r) s ok low is = absurd (omega (arith, inner_some l ok.0))
+
+pub small_node : (t : Rope) → 2 ≤ height t → false ≡ is_small t
+small_node empty high = absurd (omega arith)
+small_node (leaf b) high = absurd (omega arith)
+small_node (node l r) high = refl
 
 -- data word 1 + k of a node
 pub sum_read : (m : List ℕ) (p k w : ℕ) → k < 6 → WordRead m p (1 + k) w → (x : LendsNode m p) → w ≡ sum_at (bytes x.lends.rope) k
@@ -86,19 +86,21 @@ sum_read m p k w h read x = go x.lends.rope x.high x.lends.lent
         let long = length_sums (bytes l ++ bytes r) in
         read.is (code l) (code r) (node_data l r) lent.stands ∙ (ap (λ z. get_or (node_data l r) z 0) e ∙ get_or_append_left (sums_of (bytes l ++ bytes r)) (sums_of (bytes l)) 0 k (omega arith))
 
+zeros : (j : ℕ) → ◌≡◌ {A = ℕ} (get_or (0 ∷ 0 ∷ 0 ∷ 0 ∷ []) j 0) 0
+zeros zero = refl
+zeros (suc zero) = refl
+zeros (suc (suc zero)) = refl
+zeros (suc (suc (suc zero))) = refl
+zeros (suc (suc (suc (suc j)))) = refl
+
 -- sums that are read one by one
-pub sums_read : (b s : List ℕ) → length s ≡ 6 → ((j : ℕ) → j < used → get_or s j 0 ≡ sum_at b j) → ((j : ℕ) → used ≤ j → get_or s j 0 ≡ 0) → s ≡ sums_of b
-sums_read b s long low high =
-    ext_get_or 0 s (sums_of b) (long ∙ sym (length_sums b))
-    (λ i _. ⊎_elim (λ (h : i < used). low i h) (λ (h : used ≤ i). high i h ∙ sym (sum_unused b i h)) (cases_lt i used))
-
-pub summary_node : (t : Rope) (w : ℕ) (s : List ℕ) → Whole t → 1 ≤ height t → w ≡ tag_of t → w % 64 ≡ 63 → s ≡ sums_of (bytes t) → SummaryIs t (record { height = w / 64; sums = s })
-summary_node t w s ok some is low e = record { high = (shape_node t w ok some is low).high; sums = e }
-
-pub summary_leaf : (t : Rope) (w : ℕ) (s : List ℕ) → Whole t → 1 ≤ height t → w ≡ tag_of t → w % 64 ≢ 63 → SumsBack w s → SummaryIs t (record { height = 1; sums = s })
-summary_leaf empty w s ok some is low back = absurd (omega arith)
-summary_leaf (leaf b) w s ok some is low back = record { high = refl; sums = back.are b ok.1 is }
-summary_leaf (node l r) w s ok some is low back = absurd (low (ap (λ z. z % 64) is ∙ node_tag_low _))
+pub sums_read : (b s : List ℕ) → length s ≡ used → ((j : ℕ) → j < used → get_or s j 0 ≡ sum_at b j) → s ++ (0 ∷ 0 ∷ 0 ∷ 0 ∷ []) ≡ sums_of b
+sums_read b s long low =
+    ext_get_or 0 (s ++ (0 ∷ 0 ∷ 0 ∷ 0 ∷ [])) (sums_of b) (omega (arith, length-append s (0 ∷ 0 ∷ 0 ∷ 0 ∷ []), length_sums b))
+    (λ i _. ⊎_elim
+    (λ (h : i < used). get_or_append_left s (0 ∷ 0 ∷ 0 ∷ 0 ∷ []) 0 i (omega arith) ∙ low i h)
+    (λ (h : used ≤ i). get_or-append_right s (0 ∷ 0 ∷ 0 ∷ 0 ∷ []) used i 0 long h ∙ (zeros (i - used) ∙ sym (sum_unused b i h)))
+    (cases_lt i used))
 
 -- a node whose children are known
 module _ (m : List ℕ) (p : ℕ) (x : LendsChildren m p) where
@@ -138,11 +140,6 @@ sum_empty m p k zero_p x =
     let e = none_empty m p x.rope zero_p x.lent.stands in
     let f : sum_at (bytes x.rope) k ≡ sum_at [] k = ap (λ t. sum_at (bytes t) k) e in
     omega (arith, f, sum_small [] k)
-
-pub sum_leaf : (t : Rope) (k w v : ℕ) → Whole t → 1 ≤ height t → w ≡ tag_of t → w % 64 ≢ 63 → v ≡ digit w k → v ≡ sum_at (bytes t) k
-sum_leaf empty k w v ok some is low e = absurd (omega arith)
-sum_leaf (leaf b) k w v ok some is low e = e ∙ (ap (λ z. digit z k) is ∙ digit_pack (sums_of b) k (sums_digits b (omega (arith, ok.1))))
-sum_leaf (node l r) k w v ok some is low e = absurd (low (ap (λ z. z % 64) is ∙ node_tag_low _))
 
 -- the data words of a leaf
 pub leaf_read : (m : List ℕ) (p : ℕ) (w : List ℕ) → WordsRead m p w → (x : LendsLeaf m p) → (length x.xs ≤ 48) × Octets x.xs × (w ≡ leaf_data x.xs)

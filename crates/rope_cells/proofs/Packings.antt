@@ -1,35 +1,66 @@
 -- What is packed and unpacked, as lists.
-use Rattle.std.proofs.Common.{◌≡◌, ℕ, zero, suc, ◌+◌, ◌-◌, ◌*◌, ◌/◌, ◌%◌, ◌<◌, ◌≤◌, max, List, [], ◌∷◌, ◌++◌, length, get_or, take, drop, sym, refl, ap, ◌∙◌, ⊎_elim, arith, length-append, length-take, length-drop, take_all}
+use Rattle.std.proofs.Common.{◌≡◌, ℕ, zero, suc, ◌+◌, ◌-◌, ◌*◌, ◌/◌, ◌%◌, ◌^◌, ◌<◌, ◌≤◌, max, List, [], ◌∷◌, ◌++◌, length, get_or, take, drop, reverse, sym, refl, ap, ◌∙◌, ⊎_elim, arith, length-append, length-take, length-drop, take_all}
 use Rattle.std.proofs.lemmas.Bool.{cases_lt}
-use Rattle.std.proofs.lemmas.List.{ext_get_or, get_or_append_left, get_or-append_right, get_or_push, get_or-take, get_or-drop, take-append-le, drop_all, append-nil}
-use Rattle.std.specs.Int.{w32, to_le_bytes}
+use Rattle.std.proofs.lemmas.List.{ext_get_or, get_or_append_left, get_or-append_right, get_or_push, get_or-take, get_or-drop, take-append-le, drop_all, append-nil, length-reverse, get_or-reverse}
+use Rattle.std.proofs.lemmas.Grind.{get_or_default_zero}
+use Rattle.std.proofs.Math.Nat.{one-le-pow, pow-le-pow_right}
+use Rattle.std.specs.Int.{w32, to_le_bytes, from_le_bytes}
 use Rattle.ropes.specs.Rope.{Rope, bytes, height, leaf_max, Octets}
-use Rattle.ropes.specs.Layout.{sums_of, sum_at, pack, digit, byte_of, word_at, node_tag, leaf_data, node_data}
-use Rattle.ropes.proofs.Packs.{digit_pack, byte_of_word_at, length_words_from, get_or_words_from}
-use Rattle.ropes.proofs.Sums.{used, length_sums, sum_unused, sum_first, sums_digits, sum_append}
-use Rattle.rope_cells.specs.Packed.{SumsBack}
+use Rattle.ropes.specs.Layout.{sums_of, sum_at, word, pack, digit, byte_of, word_at, node_tag, leaf_data, node_data}
+use Rattle.ropes.proofs.Packs.{digit_pack, pack_more, pack_drop, byte_of_word_at, length_words_from, get_or_words_from}
+use Rattle.ropes.proofs.Sums.{length_sums, sum_first, sums_digits, sum_append, pack_small}
 use Rattle.rope_cells.specs.Lending.{SummaryIs}
 use Rattle.rope_cells.specs.declared.reading.Summary.{Summary}
 
-pub zeros : (j : ℕ) → ◌≡◌ {A = ℕ} (get_or (0 ∷ 0 ∷ 0 ∷ 0 ∷ 0 ∷ 0 ∷ []) j 0) 0
-zeros zero = refl
-zeros (suc zero) = refl
-zeros (suc (suc zero)) = refl
-zeros (suc (suc (suc zero))) = refl
-zeros (suc (suc (suc (suc zero)))) = refl
-zeros (suc (suc (suc (suc (suc zero))))) = refl
-zeros (suc (suc (suc (suc (suc (suc j)))))) = refl
+-- the digits of a leaf's tag, the highest first
+pub no_digit : (xs : List ℕ) → 0 ≡ pack (drop 6 (sums_of xs))
+unfolding pack
+no_digit xs = sym (ap pack (drop_all 6 (sums_of xs) (omega (arith, length_sums xs))))
+
+pub one_digit_more : (xs : List ℕ) (n x tag : ℕ) → (n < length (reverse (sums_of xs))) × (x ≡ get_or (reverse (sums_of xs)) n x)
+    → tag ≡ pack (drop (6 - n) (sums_of xs)) → 64 * tag + x ≡ pack (drop (6 - (n + 1)) (sums_of xs))
+one_digit_more xs n x tag turn so_far =
+    let s = sums_of xs in
+    let long = length_sums xs in
+    let lt : n < length s = omega (arith, turn.0, length-reverse s) in
+    let k = 6 - (n + 1) in
+    let above : k + 1 ≡ 6 - n = omega (arith, long) in
+    let place : length s - 1 - n ≡ k = omega (arith, long) in
+    let is : x ≡ get_or s k 0 = turn.1 ∙ (get_or-reverse s n x lt ∙ (ap (λ z. get_or s z x) place ∙ get_or_default_zero s k x (omega (arith, long)))) in
+    let more = pack_more s k (omega (arith, long)) in
+    let e : tag ≡ pack (drop (k + 1) s) = so_far ∙ sym (ap (λ z. pack (drop z s)) above) in
+    omega (arith, more, e, is)
+
+pub digits_fit : (xs : List ℕ) (k : ℕ) → length xs ≤ 48 → pack (drop k (sums_of xs)) < 2 ^ 24
+digits_fit xs k few = omega (arith, pack_drop (sums_of xs) k, pack_small xs (omega arith))
+
+-- powers that divide a word
+pub power_some : (k : ℕ) → 0 < 64 ^ k
+power_some k = one-le-pow k 64 (omega arith)
+
+pub power_fits : (k : ℕ) → k < 6 → 64 ^ k < 4294967296
+power_fits k h = let some : 0 < 64 = omega arith in omega (arith, pow-le-pow_right some {i = k} {j = 5} (omega arith))
 
 -- digits that are read one by one
-pub sums_back : (tag : ℕ) (s : List ℕ) → length s ≡ 6 → ((j : ℕ) → j < used → get_or s j 0 ≡ digit tag j) → ((j : ℕ) → used ≤ j → get_or s j 0 ≡ 0) → SumsBack tag s
-sums_back tag s long low high =
-    record {
-      are = λ xs few is. ext_get_or 0 s (sums_of xs) (long ∙ sym (length_sums xs))
-          (λ i _. ⊎_elim
-          (λ (h : i < used). low i h ∙ (ap (λ z. digit z i) is ∙ digit_pack (sums_of xs) i (sums_digits xs (omega arith))))
-          (λ (h : used ≤ i). high i h ∙ sym (sum_unused xs i h))
-          (cases_lt i used));
-    }
+pub sums_back : (tag : ℕ) (s xs : List ℕ) → length s ≡ 6 → ((j : ℕ) → j < 6 → get_or s j 0 ≡ digit tag j) → length xs ≤ leaf_max → tag ≡ pack (sums_of xs) → s ≡ sums_of xs
+sums_back tag s xs long each few is =
+    ext_get_or 0 s (sums_of xs) (long ∙ sym (length_sums xs))
+    (λ i h. each i (omega arith) ∙ (ap (λ z. digit z i) is ∙ digit_pack (sums_of xs) i (sums_digits xs (omega arith))))
+
+-- the lowest digit of a leaf's tag is its length
+pub leaf_tag_low : (b : List ℕ) → length b ≤ 48 → pack (sums_of b) % 64 ≡ length b
+unfolding digit
+leaf_tag_low b h =
+    let e : digit (pack (sums_of b)) 0 ≡ length b = digit_pack (sums_of b) 0 (sums_digits b (omega arith)) ∙ sum_first b in
+    omega (arith, e)
+
+-- a word of four bytes that are read one by one
+pub word_read : (xs r : List ℕ) (k w : ℕ) → ((j : ℕ) → j < 4 → get_or r j 0 ≡ get_or xs (4 * k + j) 0) → w ≡ from_le_bytes w32 r → w ≡ word_at xs k
+unfolding word word_at
+word_read xs r k w each is =
+    let e : 4 * k + 0 ≡ 4 * k = omega arith in
+    let first : get_or r 0 0 ≡ get_or xs (4 * k) 0 = each 0 (omega arith) ∙ ap (λ z. get_or xs z 0) e in
+    omega (arith, is, first, each 1 (omega arith), each 2 (omega arith), each 3 (omega arith))
 
 -- word j of a leaf's bytes, among its data
 pub leaf_word : (xs : List ℕ) (j : ℕ) → j < 12 → get_or (leaf_data xs) (1 + j) 0 ≡ word_at xs j
@@ -43,16 +74,14 @@ pub leaf_first : (xs : List ℕ) → get_or (leaf_data xs) 0 0 ≡ pack (sums_of
 unfolding leaf_data
 leaf_first xs = refl
 
-length_leaf_data : (xs : List ℕ) → length (leaf_data xs) ≡ 13
+pub leaf_data_is : (xs : List ℕ) (tag : ℕ) (words : List ℕ) → tag ≡ pack (sums_of xs) → length words ≡ 12 → ((j : ℕ) → j < 12 → get_or words j 0 ≡ word_at xs j)
+    → tag ∷ (words ++ []) ≡ leaf_data xs
 unfolding leaf_data
-length_leaf_data xs = ap suc (length_words_from xs 0 12)
-
-pub leaf_data_is : (w xs : List ℕ) → length w ≡ 13 → get_or w 0 0 ≡ pack (sums_of xs) → ((j : ℕ) → j < 12 → get_or w (1 + j) 0 ≡ word_at xs j) → w ≡ leaf_data xs
-leaf_data_is w xs long first each = ext_get_or 0 w (leaf_data xs) (long ∙ sym (length_leaf_data xs)) go
-  where
-    go : (i : ℕ) → i < length w → get_or w i 0 ≡ get_or (leaf_data xs) i 0
-    go zero h = first ∙ sym (leaf_first xs)
-    go (suc j) h = let e : suc j ≡ 1 + j = omega arith in rw e (each j (omega arith) ∙ sym (leaf_word xs j (omega arith)))
+leaf_data_is xs tag words first long each =
+    ap (λ z. z ∷ (words ++ [])) first
+    ∙ ap (λ z. pack (sums_of xs) ∷ z) (append-nil words ∙ ext_get_or 0 words _ (long ∙ sym (length_words_from xs 0 12)) (λ i h.
+    let e : 0 + i ≡ i = omega arith in
+    each i (omega arith) ∙ sym (get_or_words_from xs 0 12 i (omega arith) ∙ ap (word_at xs) e)))
 
 -- byte i of a word, as `to_le_bytes` gives it
 le_byte : (n i : ℕ) → i < 4 → get_or (to_le_bytes w32 n) i 0 ≡ byte_of n i
@@ -79,10 +108,9 @@ one_more w ys k i x before long lt is j h =
 
 -- the bytes of a leaf's words, as many as its tag says
 pub bytes_back : (w ys xs : List ℕ) → ((j : ℕ) → j < length ys → get_or ys j 0 ≡ byte_of (get_or (take 12 (drop 1 w)) (j / 4) 0) (j % 4)) → length ys ≡ leaf_max
-    → length xs ≤ leaf_max → Octets xs → w ≡ leaf_data xs → take (digit (get_or w 0 0) 0) ys ≡ xs
+    → length xs ≤ leaf_max → Octets xs → w ≡ leaf_data xs → take (get_or w 0 0 % 64) ys ≡ xs
 bytes_back w ys xs each long few o is =
-    let tag : digit (get_or w 0 0) 0 ≡ length xs =
-    ap (λ z. digit (get_or z 0 0) 0) is ∙ (ap (λ z. digit z 0) (leaf_first xs) ∙ (digit_pack (sums_of xs) 0 (sums_digits xs (omega arith)) ∙ sum_first xs)) in
+    let tag : get_or w 0 0 % 64 ≡ length xs = ap (λ z. get_or z 0 0 % 64) is ∙ (ap (λ z. z % 64) (leaf_first xs) ∙ leaf_tag_low xs few) in
     let n = length-take (length xs) ys in
     rw tag (ext_get_or 0 (take (length xs) ys) xs (omega arith)
     (λ i h.

@@ -2,3 +2,4 @@ pub mod Packed
 pub mod Coded
 pub mod Lending
 pub mod Leaves
+pub mod Tags

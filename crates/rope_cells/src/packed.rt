@@ -2,75 +2,50 @@
 ghost use Rattle.std.specs.Prelude.{◌≡◌, ℕ, ◌+◌, ◌*◌, ◌<◌, ◌≤◌, max, List, length, slice_index};
 ghost use Rattle.arrayvec.specs.ArrayVec.{array_vec_len};
 ghost use Rattle.ropes.specs.Rope.{Rope, leaf_max, Octets};
-ghost use Rattle.ropes.specs.Layout.{word, word_at, pack as packed, digit, leaf_data, node_data as data_of_node};
-ghost use Rattle.rope_cells.specs.Packed.{LeafSums, SumsBack, Addable};
+ghost use Rattle.ropes.specs.Layout.{sums_of, word_at, pack as packed, digit, leaf_data, node_data as data_of_node};
+ghost use Rattle.rope_cells.specs.Packed.{Addable};
 ghost use Rattle.rope_cells.specs.Lending.{SummaryIs};
 
 use crate::leaves::Leaf;
 use crate::reading::{NODE, Summary};
-use crate::sums::{Sums, USED, sums_of};
+use crate::sums::{Sums, sums_of};
 use arrayvec::ArrayVec;
 use cells::Data;
 use std::array;
 
-/// The first data word of a leaf with these sums.
-fn leaf_tag(sums: Sums) -> u32
-    requires { LeafSums sums }
-    ensures { result ≡ packed sums }
+/// The first data word of a leaf of these bytes: its sums, the first lowest.
+fn leaf_tag(bytes: &[u8]) -> u32
+    requires { length bytes.now ≤ 48 }
+    ensures { result ≡ packed (sums_of bytes.now) }
 {
     let mut tag = 0;
-    for k in (0..USED).rev() {
-        tag = 64 * tag + sums[k];
+    for sum in sums_of(bytes).iter().rev() {
+        tag = 64 * tag + sum;
     }
     tag
 }
 
 /// Digit `k` of a leaf's first data word.
-pub fn digit_of(tag: u32, k: usize) -> u32
+fn digit_of(tag: u32, k: usize) -> u32
+    requires { k < 6 }
     ensures { result ≡ digit tag k }
 {
-    let mut rest = tag;
-    for _ in 0..k {
-        rest /= 64;
-    }
-    rest % 64
+    tag / 64_u32.pow(k as u32) % 64
 }
 
-/// The sums of a leaf with this first data word.
+/// The sums of the leaf with this first data word.
 pub fn leaf_sums(tag: u32) -> Sums
-    ensures { SumsBack tag result }
+    ensures { (xs : List ℕ) → length xs ≤ leaf_max → tag ≡ packed (sums_of xs) → result ≡ sums_of xs }
 {
-    let mut sums = [0; 6];
-    for k in 0..USED {
-        sums[k] = digit_of(tag, k);
-    }
-    sums
+    array::from_fn(|k| digit_of(tag, k))
 }
 
-/// Byte `i`, or 0 behind the last.
-fn byte_or_zero(bytes: &[u8], i: usize) -> u8
-    ensures { result ≡ slice_index bytes.now i }
-{
-    if i < bytes.len() { bytes[i] } else { 0 }
-}
-
-/// Four bytes as a word, the first lowest.
-fn word_of(a: u8, b: u8, c: u8, d: u8) -> u32
-    ensures { result ≡ word a b c d }
-{
-    a as u32 + 256 * (b as u32) + 65536 * (c as u32) + 16777216 * (d as u32)
-}
-
-/// Word `k` of the bytes.
-fn pack_word(bytes: &[u8], k: usize) -> u32
+/// Word `k` of some bytes, with zeros behind them.
+fn word_at(bytes: &[u8], k: usize) -> u32
     requires { k < 12 }
     ensures { result ≡ word_at bytes.now k }
 {
-    let a = byte_or_zero(bytes, 4 * k);
-    let b = byte_or_zero(bytes, 4 * k + 1);
-    let c = byte_or_zero(bytes, 4 * k + 2);
-    let d = byte_or_zero(bytes, 4 * k + 3);
-    word_of(a, b, c, d)
+    u32::from_le_bytes(array::from_fn(|j| bytes.get(4 * k + j).copied().unwrap_or(0)))
 }
 
 /// The data words of a leaf of these bytes.
@@ -79,11 +54,10 @@ pub fn pack(bytes: &[u8]) -> Data
     ensures value { result ≡ leaf_data bytes.now }
     ensures octets { Octets bytes.now }
 {
+    let words: [u32; 12] = array::from_fn(|k| word_at(bytes, k));
     let mut data = [0; 13];
-    data[0] = leaf_tag(sums_of(bytes));
-    for k in 0..12 {
-        data[1 + k] = pack_word(bytes, k);
-    }
+    data[0] = leaf_tag(bytes);
+    data[1..].copy_from_slice(&words);
     data
 }
 
@@ -98,7 +72,7 @@ pub fn unpack(data: &Data) -> Leaf
             leaf.push(byte);
         }
     }
-    leaf.truncate(digit_of(data[0], 0) as usize);
+    leaf.truncate((data[0] % 64) as usize);
     leaf
 }
 

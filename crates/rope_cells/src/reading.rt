@@ -2,11 +2,11 @@
 ghost use Rattle.std.specs.Prelude.{◌≡◌, ℕ, ◌+◌, ◌<◌, ◌≤◌};
 ghost use Rattle.ropes.specs.Rope.{bytes, size};
 ghost use Rattle.ropes.specs.Layout.{sums_of};
-ghost use Rattle.rope_cells.specs.Coded.{tag_of as first_word};
+ghost use Rattle.rope_cells.specs.Tags.{TagIs};
 ghost use Rattle.rope_cells.specs.Lending.{Lends, LendsSome, LendsNode, LendsChildren, ShapeIs, SummaryIs};
 
 use crate::leaves::LEAF_MIN;
-use crate::packed::{digit_of, leaf_sums};
+use crate::packed::leaf_sums;
 use crate::sums::{Bytes, Sum, Sums, USED};
 use cells::{Ref, data_word};
 use words::Words;
@@ -35,14 +35,28 @@ pub struct Summary {
     pub sums: Sums,
 }
 
-/// The first data word.
-fn tag_of<W: Words>(words: &mut W, p: Ref) -> u32
+/// What the cell of a rope says of it in one word.
+#[derive(Clone, Copy)]
+enum Tag {
+    Leaf { sums: Sums },
+    Node { height: u32 },
+}
+
+/// What the first data word says.
+fn tag_of<W: Words>(words: &mut W, p: Ref) -> Tag
     requires { LendsSome (W.Words.row words.old) p.0 }
-    ensures value { (x : LendsSome (W.Words.row words.old) p.0) → result ≡ first_word x.lends.rope }
+    ensures value { (x : LendsSome (W.Words.row words.old) p.0) → TagIs x.lends.rope result }
     ensures same { W.Words.row words.new ≡ W.Words.row words.old }
     ensures touches { W.touched words.new ≤ W.touched words.old + 1 }
 {
-    data_word(words, p, 0)
+    let word = data_word(words, p, 0);
+    if word % 64 == NODE {
+        Tag::Node { height: word / 64 }
+    } else {
+        Tag::Leaf {
+            sums: leaf_sums(word),
+        }
+    }
 }
 
 /// How high the rope of `p` is, and whether it is a small leaf.
@@ -52,17 +66,15 @@ pub fn shape_of<W: Words>(words: &mut W, p: Ref) -> Shape
     ensures same { W.Words.row words.new ≡ W.Words.row words.old }
     ensures touches { W.touched words.new ≤ W.touched words.old + 1 }
 {
-    let tag = tag_of(words, p);
-    if tag % 64 == NODE {
-        Shape {
-            height: tag / 64,
-            small: false,
-        }
-    } else {
-        Shape {
+    match tag_of(words, p) {
+        Tag::Leaf { sums } => Shape {
             height: 1,
-            small: tag % 64 < LEAF_MIN as u32,
-        }
+            small: sums[Bytes::PLACE] < LEAF_MIN as u32,
+        },
+        Tag::Node { height } => Shape {
+            height,
+            small: false,
+        },
     }
 }
 
@@ -88,8 +100,8 @@ fn node_sums<W: Words>(words: &mut W, p: Ref) -> Sums
     ensures touches { W.touched words.new ≤ W.touched words.old + 2 }
 {
     let mut sums = [0; 6];
-    for k in 0..USED {
-        sums[k] = data_word(words, p, 1 + k);
+    for (k, sum) in sums[..USED].iter_mut().enumerate() {
+        *sum = data_word(words, p, 1 + k);
     }
     sums
 }
@@ -101,16 +113,12 @@ pub fn summary_of<W: Words>(words: &mut W, p: Ref) -> Summary
     ensures same { W.Words.row words.new ≡ W.Words.row words.old }
     ensures touches { W.touched words.new ≤ W.touched words.old + 3 }
 {
-    let tag = tag_of(words, p);
-    if tag % 64 == NODE {
-        let sums = node_sums(words, p);
-        Summary {
-            height: tag / 64,
-            sums,
-        }
-    } else {
-        let sums = leaf_sums(tag);
-        Summary { height: 1, sums }
+    match tag_of(words, p) {
+        Tag::Leaf { sums } => Summary { height: 1, sums },
+        Tag::Node { height } => Summary {
+            height,
+            sums: node_sums(words, p),
+        },
     }
 }
 
@@ -134,11 +142,9 @@ pub fn sum<S: Sum, W: Words>(words: &mut W, p: Ref) -> u32
     if p.is_none() {
         return 0;
     }
-    let tag = tag_of(words, p);
-    if tag % 64 == NODE {
-        data_word(words, p, 1 + S::PLACE)
-    } else {
-        digit_of(tag, S::PLACE)
+    match tag_of(words, p) {
+        Tag::Leaf { sums } => sums[S::PLACE],
+        Tag::Node { .. } => data_word(words, p, 1 + S::PLACE),
     }
 }
 

@@ -77,13 +77,7 @@ impl Sum for LineEnds {
     ghost known = { Prim.search rules };
 
     fn of(part: &[u8]) -> u32 {
-        let mut n: u32 = 0;
-        for b in part {
-            if *b == b'\n' {
-                n += 1;
-            }
-        }
-        n
+        part.iter().filter(|b| **b == b'\n').count() as u32
     }
 }
 

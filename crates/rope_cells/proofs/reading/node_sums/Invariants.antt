@@ -1,4 +1,4 @@
-use Rattle.std.proofs.Common.{◌≡◌, ℕ, ◌+◌, ◌<◌, ◌≤◌, length, get_or}
+use Rattle.std.proofs.Common.{◌≡◌, ℕ, ◌+◌, ◌<◌, ◌≤◌, get_or}
 use Rattle.ropes.specs.Rope.{bytes}
 use Rattle.ropes.specs.Layout.{sum_at}
 use Rattle.rope_cells.specs.Lending.{LendsNode}
@@ -8,6 +8,4 @@ abbrev pub invariant-loop-k : goal.invariant-loop-k
 invariant-loop-k g l =
     (g.W.Words.row l.words ≡ g.W.Words.row l.initial.words)
     × (g.W.Words.touched l.words ≤ g.W.Words.touched l.initial.words + l.k)
-    × (length l.sums ≡ 6)
-    × ((x : LendsNode (g.W.Words.row l.initial.words) l.p.0) (j : ℕ) → j < l.k → get_or l.sums j 0 ≡ sum_at (bytes x.lends.rope) j)
-    × ((j : ℕ) → l.k ≤ j → get_or l.sums j 0 ≡ 0)
+    × ((x : LendsNode (g.W.Words.row l.initial.words) l.p.0) (j : ℕ) → j < l.k → get_or l.sum-items j 0 ≡ sum_at (bytes x.lends.rope) j)

@@ -1,19 +1,8 @@
-use Rattle.std.proofs.Common.{rules}
-use Rattle.rope_cells.proofs.Codes.{shape_node, shape_leaf}
+use Rattle.std.proofs.Common.{sym}
+use Rattle.rope_cells.proofs.Codes.{small_leaf}
 use Rattle.rope_cells.proofs.reading.shape_of.Goals as goal
 
-pub returns-then-tag-eq-NODE : goal.returns-then-tag-eq-NODE
-returns-then-tag-eq-NODE g c =
-    record {
-      value = λ x. shape_node x.lends.rope _ x.lends.whole x.some (c.tag_of-tag.ensures.value x) c.if-tag-eq-NODE.true;
-      same = search rules;
-      touches = search rules;
-    }
-
-pub returns-else-tag-eq-NODE : goal.returns-else-tag-eq-NODE
-returns-else-tag-eq-NODE g c =
-    record {
-      value = λ x. shape_leaf x.lends.rope _ x.lends.whole x.some (c.tag_of-tag.ensures.value x) c.if-tag-eq-NODE.false;
-      same = search rules;
-      touches = search rules;
-    }
+pub returns-in-Leaf-clause-value : goal.returns-in-Leaf-clause-value
+returns-in-Leaf-clause-value g c = λ x.
+    let tag = c.in-Leaf.ensures.value x in
+    record { high = sym tag.0; little = small_leaf x.lends.rope _ x.lends.whole tag.0 tag.1 }

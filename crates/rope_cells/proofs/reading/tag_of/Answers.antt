@@ -1,9 +1,9 @@
-use Rattle.std.proofs.Common.{arith, rules}
-use Rattle.rope_cells.proofs.Codes.{reading, tag_read}
+use Rattle.rope_cells.proofs.Codes.{tag_read, tag_node, tag_leaf}
 use Rattle.rope_cells.proofs.reading.tag_of.Goals as goal
 
-pub data_word-requires : goal.data_word-requires
-data_word-requires g c = record { node = reading _ _ c.requires; word = omega arith }
+pub returns-then-word-eq-NODE-clause-value : goal.returns-then-word-eq-NODE-clause-value
+returns-then-word-eq-NODE-clause-value g c = λ x. tag_node x.lends.rope _ x.lends.whole x.some (tag_read _ _ _ c.data_word-word.ensures.value x) c.if-word-eq-NODE.true
 
-pub returns : goal.returns
-returns g c = record { value = tag_read _ _ _ c.data_word.ensures.value; same = search rules; touches = search rules }
+pub returns-else-word-eq-NODE-clause-value : goal.returns-else-word-eq-NODE-clause-value
+returns-else-word-eq-NODE-clause-value g c = λ x.
+    tag_leaf x.lends.rope _ _ x.lends.whole x.some (tag_read _ _ _ c.data_word-word.ensures.value x) c.if-word-eq-NODE.false c.leaf_sums.ensures
