@@ -132,15 +132,7 @@ pub node_first : (u v : Rope) → get_or (node_data u v) 0 0 ≡ node_tag (max (
 unfolding node_data
 node_first u v = refl
 
--- the sums of a node's bytes, among its data
-pub node_sum : (u v : Rope) (k : ℕ) → k < 6 → get_or (node_data u v) (1 + k) 0 ≡ sum_at (bytes u ++ bytes v) k
-unfolding node_data
-node_sum u v k h =
-    let e : 1 + k ≡ suc k = omega arith in
-    let long = length_sums (bytes u ++ bytes v) in
-    rw e (get_or_append_left (sums_of (bytes u ++ bytes v)) (sums_of (bytes u)) 0 k (omega arith))
-
--- and those of its left child's
+-- the sums of a node's left child, among its data
 pub left_sum : (u v : Rope) (k : ℕ) → get_or (node_data u v) (7 + k) 0 ≡ sum_at (bytes u) k
 unfolding node_data
 left_sum u v k =

@@ -1,4 +1,4 @@
-//! The data words of a leaf: its sums as the digits of one word, and its bytes four to a word.
+//! The data words of a leaf, which are its sums as the digits of one word and its bytes four to a word, and those of a node.
 ghost use Rattle.std.specs.Prelude.{◌≡◌, ℕ, ◌+◌, ◌*◌, ◌<◌, ◌≤◌, max, List, length, slice_index};
 ghost use Rattle.arrayvec.specs.ArrayVec.{array_vec_len};
 ghost use Rattle.ropes.specs.Rope.{Rope, leaf_max, Octets};
@@ -12,6 +12,11 @@ use crate::sums::{Sums, sums_of};
 use arrayvec::ArrayVec;
 use cells::Data;
 use std::array;
+
+/// From which word on a node's data have the sums of all its bytes, and those of its left child.
+pub const SUMS: usize = 1;
+
+pub const LEFT_SUMS: usize = 7;
 
 /// The first data word of a leaf of these bytes: its sums, the first lowest.
 fn leaf_tag(bytes: &[u8]) -> u32
@@ -61,18 +66,18 @@ pub fn pack(bytes: &[u8]) -> Data
     data
 }
 
-/// The bytes of the leaf with these data.
-pub fn unpack(data: &Data) -> Leaf
-    ensures value { (xs : List ℕ) → length xs ≤ leaf_max → Octets xs → data.now ≡ leaf_data xs → result.items ≡ xs }
+/// The bytes of the leaf with these data words.
+pub fn unpack(words: &Data) -> Leaf
+    ensures value { (xs : List ℕ) → length xs ≤ leaf_max → Octets xs → words.now ≡ leaf_data xs → result.items ≡ xs }
     ensures few { array_vec_len result ≤ 48 }
 {
     let mut leaf = ArrayVec::new();
-    for word in &data[1..] {
+    for word in &words[1..] {
         for byte in word.to_le_bytes() {
             leaf.push(byte);
         }
     }
-    leaf.truncate((data[0] % 64) as usize);
+    leaf.truncate((words[0] % 64) as usize);
     leaf
 }
 
@@ -85,7 +90,7 @@ pub fn node_data(left: Summary, right: Summary) -> Data
     let both: Sums = array::from_fn(|k| left.sums[k] + right.sums[k]);
     let mut data = [0; 13];
     data[0] = NODE + 64 * (left.height.max(right.height) + 1);
-    data[1..7].copy_from_slice(&both);
-    data[7..].copy_from_slice(&left.sums);
+    data[SUMS..LEFT_SUMS].copy_from_slice(&both);
+    data[LEFT_SUMS..].copy_from_slice(&left.sums);
     data
 }

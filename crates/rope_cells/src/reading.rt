@@ -6,12 +6,13 @@ ghost use Rattle.rope_cells.specs.Tags.{TagIs};
 ghost use Rattle.rope_cells.specs.Lending.{Lends, LendsSome, LendsNode, LendsChildren, ShapeIs, SummaryIs};
 
 use crate::leaves::LEAF_MIN;
-use crate::packed::leaf_sums;
+use crate::packed::{LEFT_SUMS, SUMS, leaf_sums};
 use crate::sums::{Bytes, Sum, Sums, USED};
 use cells::{Ref, data_word};
 use words::Words;
 
 /// The lowest digit of a node's first data word. A leaf's is its length.
+// Kept: a number for a kind, since all that is kept lies in words (fixed memory); it is read as a `Tag`.
 pub const NODE: u32 = 63;
 
 /// What balancing asks of a rope.
@@ -101,7 +102,7 @@ fn node_sums<W: Words>(words: &mut W, p: Ref) -> Sums
 {
     let mut sums = [0; 6];
     for (k, sum) in sums[..USED].iter_mut().enumerate() {
-        *sum = data_word(words, p, 1 + k);
+        *sum = data_word(words, p, SUMS + k);
     }
     sums
 }
@@ -129,7 +130,7 @@ pub fn left_sum<S: Sum, W: Words>(words: &mut W, p: Ref) -> u32
     ensures same { W.Words.row words.new ≡ W.Words.row words.old }
     ensures touches { W.touched words.new ≤ W.touched words.old + 1 }
 {
-    data_word(words, p, 7 + S::PLACE)
+    data_word(words, p, LEFT_SUMS + S::PLACE)
 }
 
 /// The sum of all bytes of the rope of `p`.
@@ -144,7 +145,7 @@ pub fn sum<S: Sum, W: Words>(words: &mut W, p: Ref) -> u32
     }
     match tag_of(words, p) {
         Tag::Leaf { sums } => sums[S::PLACE],
-        Tag::Node { .. } => data_word(words, p, 1 + S::PLACE),
+        Tag::Node { .. } => data_word(words, p, SUMS + S::PLACE),
     }
 }
 

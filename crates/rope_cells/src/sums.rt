@@ -10,6 +10,7 @@ ghost use Rattle.ropes.proofs.Sums.{sum_first, newlines_append, newlines_few};
 pub type Sums = [u32; 6];
 
 /// How many places are taken.
+// Kept: a length beside the array, since to read all six words of a node would touch more than the two that its readers promise.
 pub const USED: usize = 2;
 
 /// A number that each byte sequence has, such that the parts of one have the whole's in all.
@@ -86,12 +87,5 @@ pub fn sums_of(part: &[u8]) -> Sums
     requires { length part.now < 2 ^ 32 }
     ensures { result ≡ sums_of part.now }
 {
-    [
-        <Bytes as Sum>::of(part),
-        <LineEnds as Sum>::of(part),
-        0,
-        0,
-        0,
-        0,
-    ]
+    [Bytes::of(part), LineEnds::of(part), 0, 0, 0, 0]
 }

@@ -9,4 +9,4 @@ loop-byte-preserved c =
 
 pub returns-clause-value : goal.returns-clause-value
 returns-clause-value c = λ xs few o is.
-    rw c.truncate.ensures.items (bytes_back c.args.data.now _ xs c.loop-word.invariant.1 (search rules) few o is)
+    rw c.truncate.ensures.items (bytes_back c.args.words.now _ xs c.loop-word.invariant.1 (search rules) few o is)
