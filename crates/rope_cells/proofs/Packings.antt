@@ -121,13 +121,6 @@ bytes_back w ys xs each long few o is =
     ∙ (ap (λ z. byte_of z (i % 4)) (get_or-take 12 (drop 1 w) (i / 4) 0 (omega arith) ∙ (get_or-drop 1 w (i / 4) 0 ∙ (ap (λ z. get_or z (1 + i / 4) 0) is ∙ leaf_word xs (i / 4) (omega arith))))
     ∙ (byte_of_word_at xs o (i / 4) (i % 4) (omega arith) ∙ ap (λ z. get_or xs z 0) at)))))
 
-length_node_data : (u v : Rope) → length (node_data u v) ≡ 13
-unfolding node_data
-length_node_data u v =
-    let a = length_sums (bytes u ++ bytes v) in
-    let b = length_sums (bytes u) in
-    omega (arith, length-append (sums_of (bytes u ++ bytes v)) (sums_of (bytes u)))
-
 pub node_first : (u v : Rope) → get_or (node_data u v) 0 0 ≡ node_tag (max (height u) (height v) + 1)
 unfolding node_data
 node_first u v = refl
