@@ -4,7 +4,7 @@ use Rattle.cells.specs.Layout.{cell, at}
 use Rattle.cells.specs.Tree.{Tree, node}
 use Rattle.cells.specs.declared.cell.Ref.{Ref}
 use Rattle.cells.specs.Have.{Item, item, refs, Have, Lent, opt}
-use Rattle.cells.specs.Steps.{Reading, Sharing, Shared, Holding, Released, Opening, Opened, Made, GaveUp}
+use Rattle.cells.specs.Steps.{Reading, Sharing, Shared, Holding, Released, Opening, Parted, Opened, Made, GaveUp}
 use Rattle.cells.proofs.Held.{reorder, held, lend, lend_left, lend_right}
 
 -- a node that may be read lies within the row
@@ -63,12 +63,13 @@ module _ (m : List ℕ) (p l r : ℕ) (is_l : l ≡ at m p 1) (is_r : r ≡ at m
             have = after_left a.left a.right a.word a.rest a.have;
           }
 
-      pub opened : (m3 w : List ℕ) → w ≡ drop 3 (cell m p) → Released m2 m3 p → Opened m m3 p l r w
-      opened m3 w is_w gone =
-          record {
-            have = λ u v x rest h. gone.have (node u v x) (item l u ∷ (item r v ∷ rest)) (after_left u v x rest h);
-            word = λ u v x rest h. is_w ∙ h.stand.0.3;
-          }
+      pub parted : (m3 : List ℕ) → Released m2 m3 p → Parted m m3 p l r
+      parted m3 gone =
+          record { have = λ u v x rest h. gone.have (node u v x) (item l u ∷ (item r v ∷ rest)) (after_left u v x rest h) }
+
+-- a node that was parted, and its data words as they were read before
+pub opened : (m m' : List ℕ) (p l r : ℕ) (w : List ℕ) → w ≡ drop 3 (cell m p) → Parted m m' p l r → Opened m m' p l r w
+opened m m' p l r w is_w a = record { have = a.have; word = λ u v x rest h. is_w ∙ h.stand.0.3 }
 
 -- what making a node, or giving up, leaves held
 pub made_have : (m m' : List ℕ) (d : Option Ref) (l r : ℕ) (w : List ℕ) → MatchOption d (GaveUp m m' l r) (λ x. Made m m' x.0 l r w)

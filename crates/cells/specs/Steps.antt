@@ -116,6 +116,10 @@ pub record Opening (m : List ℕ) (p : ℕ) : Type 0 where
   pub few : length rest < 2147483640
 
 -- from m to m' the node p was let go, and its children l and r are held in its place
+pub record Parted (m m' : List ℕ) (p l r : ℕ) : Type 0 where
+  pub have : (u v : Tree) (x : List ℕ) (rest : List Item) → Have m (item p (node u v x) ∷ rest) → Have m' (item l u ∷ (item r v ∷ rest))
+
+-- the same, and w are its data words
 pub record Opened (m m' : List ℕ) (p l r : ℕ) (w : List ℕ) : Type 0 where
   pub have : (u v : Tree) (x : List ℕ) (rest : List Item) → Have m (item p (node u v x) ∷ rest) → Have m' (item l u ∷ (item r v ∷ rest))
   pub word : (u v : Tree) (x : List ℕ) (rest : List Item) → Have m (item p (node u v x) ∷ rest) → w ≡ x

@@ -5,7 +5,7 @@ ghost use Rattle.cells.specs.Layout.{at, put};
 use words::Words;
 
 /// A cell, or none.
-#[derive(Clone, Copy)]
+#[derive(Clone, Copy, PartialEq, Eq)]
 pub struct Ref(pub(crate) u32);
 
 /// Refers to nothing.
@@ -37,7 +37,7 @@ impl Ref {
     pub fn is_none(self) -> bool
         ensures { result ≡ (self.0 == 0) }
     {
-        self.0 == 0
+        self == NONE
     }
 }
 

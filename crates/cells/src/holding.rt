@@ -13,7 +13,7 @@ pub fn share<W: Words>(words: &mut W, p: Ref)
     ensures kept { Kept (W.Words.row words.old) (W.Words.row words.new) }
     ensures touches { W.touched words.new ≤ W.touched words.old + 2 }
 {
-    if p.0 != 0 {
+    if !p.is_none() {
         raise(words, p);
     }
 }
@@ -36,7 +36,7 @@ pub fn release<W: Words>(words: &mut W, p: Ref)
     ensures kept { Kept (W.Words.row words.old) (W.Words.row words.new) }
     ensures touches { W.touched words.new ≤ W.touched words.old + 5 }
 {
-    if p.0 != 0 {
+    if !p.is_none() {
         let count = lower(words, p);
         if count == 0 {
             push_dead(words, p);

@@ -1,7 +1,7 @@
 //! Making a node of a cell, and taking one apart.
 ghost use Rattle.std.specs.Prelude.{◌≡◌, ℕ, ◌+◌, ◌*◌, ◌<◌, ◌≤◌, length, MatchOption};
 ghost use Rattle.cells.specs.Layout.{at, put, filled};
-ghost use Rattle.cells.specs.Steps.{Kept, Making, Made, Dropped, Reusing, Refused, GaveUp, Opening, Opened};
+ghost use Rattle.cells.specs.Steps.{Kept, Making, Made, Dropped, Reusing, Refused, GaveUp, Opening, Parted, Opened};
 
 use crate::cell::{COUNT, FIRST_DEAD, HEADER, LEFT, LINK, RIGHT, Ref, TAKEN, word, write};
 use crate::content::{Data, load, store};
@@ -22,9 +22,9 @@ pub struct Node {
 
 /// The children of a cell.
 #[derive(Clone, Copy)]
-struct Children {
-    left: Ref,
-    right: Ref,
+pub struct Children {
+    pub left: Ref,
+    pub right: Ref,
 }
 
 /// The children of `p`.
@@ -40,17 +40,17 @@ fn children_of<W: Words>(words: &mut W, p: Ref) -> Children
     Children { left, right }
 }
 
-/// Gives `d` the count 1, these children and these data.
-fn fill<W: Words>(words: &mut W, d: Ref, left: Ref, right: Ref, data: Data)
+/// Gives `d` the count 1, and the children and data of `node`.
+fn fill<W: Words>(words: &mut W, d: Ref, node: Node)
     requires within { 16 * d.0 + 16 ≤ length (W.Words.row words.old) }
-    ensures same { W.Words.row words.new ≡ filled (W.Words.row words.old) d.0 left.0 right.0 «data» }
+    ensures same { W.Words.row words.new ≡ filled (W.Words.row words.old) d.0 node.left.0 node.right.0 node.«data» }
     ensures long { length (W.Words.row words.new) ≡ length (W.Words.row words.old) }
     ensures touches { W.touched words.new ≤ W.touched words.old + 16 }
 {
     write(words, d, COUNT, 1);
-    write(words, d, LEFT, left.0);
-    write(words, d, RIGHT, right.0);
-    store(words, d, data);
+    write(words, d, LEFT, node.left.0);
+    write(words, d, RIGHT, node.right.0);
+    store(words, d, node.data);
 }
 
 /// Takes the first dead cell `d` from the dead ones.
@@ -65,7 +65,7 @@ fn pop_dead<W: Words>(words: &mut W, d: Ref)
 }
 
 /// Lets two references go.
-pub(crate) fn release_both<W: Words>(words: &mut W, left: Ref, right: Ref)
+pub fn release_both<W: Words>(words: &mut W, left: Ref, right: Ref)
     requires { Making (W.Words.row words.old) left.0 right.0 }
     ensures dropped { Dropped (W.Words.row words.old) (W.Words.row words.new) left.0 right.0 }
     ensures kept { Kept (W.Words.row words.old) (W.Words.row words.new) }
@@ -76,15 +76,15 @@ pub(crate) fn release_both<W: Words>(words: &mut W, left: Ref, right: Ref)
 }
 
 /// Makes a node of the first dead cell `d`, and lets the children go that it still had.
-fn reuse<W: Words>(words: &mut W, d: Ref, left: Ref, right: Ref, data: Data)
-    requires { Reusing (W.Words.row words.old) d.0 left.0 right.0 }
-    ensures made { Made (W.Words.row words.old) (W.Words.row words.new) d.0 left.0 right.0 «data» }
+fn reuse<W: Words>(words: &mut W, d: Ref, node: Node)
+    requires { Reusing (W.Words.row words.old) d.0 node.left.0 node.right.0 }
+    ensures made { Made (W.Words.row words.old) (W.Words.row words.new) d.0 node.left.0 node.right.0 node.«data» }
     ensures kept { Kept (W.Words.row words.old) (W.Words.row words.new) }
     ensures touches { W.touched words.new ≤ W.touched words.old + 30 }
 {
     pop_dead(words, d);
     let old = children_of(words, d);
-    fill(words, d, left, right, data);
+    fill(words, d, node);
     release_both(words, old.left, old.right);
 }
 
@@ -99,16 +99,16 @@ fn raise_taken<W: Words>(words: &mut W, taken: u32)
 }
 
 /// Makes a node of a cell that was never taken, where there is room for one.
-fn extend<W: Words>(words: &mut W, left: Ref, right: Ref, data: Data) -> Option<Ref>
-    requires making { Making (W.Words.row words.old) left.0 right.0 }
+fn extend<W: Words>(words: &mut W, node: Node) -> Option<Ref>
+    requires making { Making (W.Words.row words.old) node.left.0 node.right.0 }
     requires none_dead { at (W.Words.row words.old) 0 1 ≡ 0 }
-    ensures made { MatchOption result (Refused (W.Words.row words.old) (W.Words.row words.new)) (λ d. Made (W.Words.row words.old) (W.Words.row words.new) d.0 left.0 right.0 «data») }
+    ensures made { MatchOption result (Refused (W.Words.row words.old) (W.Words.row words.new)) (λ d. Made (W.Words.row words.old) (W.Words.row words.new) d.0 node.left.0 node.right.0 node.«data») }
     ensures kept { Kept (W.Words.row words.old) (W.Words.row words.new) }
     ensures touches { W.touched words.new ≤ W.touched words.old + 18 }
 {
     let taken = word(words, HEADER, TAKEN);
     if taken < MOST_CELLS && 16 * taken as usize + 16 <= words.count() {
-        fill(words, Ref(taken), left, right, data);
+        fill(words, Ref(taken), node);
         raise_taken(words, taken);
         Some(Ref(taken))
     } else {
@@ -117,35 +117,49 @@ fn extend<W: Words>(words: &mut W, left: Ref, right: Ref, data: Data) -> Option<
 }
 
 /// A new node with these children, which take the caller's references over, or none, and nothing changed, where no cell is dead and there is no room.
-pub fn alloc<W: Words>(words: &mut W, left: Ref, right: Ref, data: Data) -> Option<Ref>
-    requires { Making (W.Words.row words.old) left.0 right.0 }
-    ensures made { MatchOption result (Refused (W.Words.row words.old) (W.Words.row words.new)) (λ d. Made (W.Words.row words.old) (W.Words.row words.new) d.0 left.0 right.0 «data») }
+pub fn alloc<W: Words>(words: &mut W, node: Node) -> Option<Ref>
+    requires { Making (W.Words.row words.old) node.left.0 node.right.0 }
+    ensures made { MatchOption result (Refused (W.Words.row words.old) (W.Words.row words.new)) (λ d. Made (W.Words.row words.old) (W.Words.row words.new) d.0 node.left.0 node.right.0 node.«data») }
     ensures kept { Kept (W.Words.row words.old) (W.Words.row words.new) }
     ensures touches { W.touched words.new ≤ W.touched words.old + 31 }
 {
     let first = word(words, HEADER, FIRST_DEAD);
     if first != 0 {
-        reuse(words, Ref(first), left, right, data);
+        reuse(words, Ref(first), node);
         Some(Ref(first))
     } else {
-        extend(words, left, right, data)
+        extend(words, node)
     }
 }
 
 /// A new node with these children, or none, and both let go, where there is no room.
-pub fn make<W: Words>(words: &mut W, left: Ref, right: Ref, data: Data) -> Option<Ref>
-    requires { Making (W.Words.row words.old) left.0 right.0 }
-    ensures made { MatchOption result (GaveUp (W.Words.row words.old) (W.Words.row words.new) left.0 right.0) (λ d. Made (W.Words.row words.old) (W.Words.row words.new) d.0 left.0 right.0 «data») }
+pub fn make<W: Words>(words: &mut W, node: Node) -> Option<Ref>
+    requires { Making (W.Words.row words.old) node.left.0 node.right.0 }
+    ensures made { MatchOption result (GaveUp (W.Words.row words.old) (W.Words.row words.new) node.left.0 node.right.0) (λ d. Made (W.Words.row words.old) (W.Words.row words.new) d.0 node.left.0 node.right.0 node.«data») }
     ensures kept { Kept (W.Words.row words.old) (W.Words.row words.new) }
-    ensures touches { W.touched words.new ≤ W.touched words.old + 41 }
+    ensures touches { MatchOption result (W.touched words.new ≤ W.touched words.old + 41) (λ _. W.touched words.new ≤ W.touched words.old + 31) }
 {
-    match alloc(words, left, right, data) {
+    match alloc(words, node) {
         Some(d) => Some(d),
         None => {
-            release_both(words, left, right);
+            release_both(words, node.left, node.right);
             None
         }
     }
+}
+
+/// Lets the node `p` go, for its children.
+pub fn part<W: Words>(words: &mut W, p: Ref) -> Children
+    requires { Opening (W.Words.row words.old) p.0 }
+    ensures parted { Parted (W.Words.row words.old) (W.Words.row words.new) p.0 result.left.0 result.right.0 }
+    ensures kept { Kept (W.Words.row words.old) (W.Words.row words.new) }
+    ensures touches { W.touched words.new ≤ W.touched words.old + 11 }
+{
+    let old = children_of(words, p);
+    share(words, old.right);
+    share(words, old.left);
+    release(words, p);
+    old
 }
 
 /// Lets the node `p` go, for its children and its data.
@@ -155,14 +169,7 @@ pub fn open<W: Words>(words: &mut W, p: Ref) -> Node
     ensures kept { Kept (W.Words.row words.old) (W.Words.row words.new) }
     ensures touches { W.touched words.new ≤ W.touched words.old + 24 }
 {
-    let old = children_of(words, p);
     let data = load(words, p);
-    share(words, old.right);
-    share(words, old.left);
-    release(words, p);
-    Node {
-        left: old.left,
-        right: old.right,
-        data,
-    }
+    let Children { left, right } = part(words, p);
+    Node { left, right, data }
 }

@@ -1,12 +1,17 @@
 -- Lists of cells, each with its number as its first data word.
 use Rattle.std.specs.Prelude.{◌≡◌, ℕ, zero, suc, ◌+◌, ◌<◌, List, [], ◌∷◌, length, replicate, slice_set}
 use Rattle.cells.specs.Layout.{state}
+use Rattle.cells.specs.declared.cell.Ref.{Ref}
+use Rattle.cells.specs.declared.making.Node.{Node}
 use Rattle.cells.specs.Tree.{Tree, none, node}
 use Rattle.cells.specs.Have.{item, Have}
 use Rattle.cells.specs.Steps.{Full}
 
 abbrev pub numbered : ℕ → List ℕ
 numbered k = k ∷ replicate 12 0
+
+abbrev pub numbered_node : ℕ → Ref → Ref → Node
+numbered_node k l r = record { left = l; right = r; «data» = numbered k }
 
 -- n cells, the last one first
 abbrev pub chained : ℕ → Tree

@@ -3,9 +3,9 @@
 
 ghost use Rattle.std.specs.Prelude.{◌≡◌, ℕ, ◌<◌, ◌≤◌, List, [], ◌∷◌, length};
 ghost use Rattle.cells.specs.Have.{Have, Item, item, opt};
-ghost use Rattle.chain.specs.Chains.{Built, Pair, Stored, paired, numbered as «numbered-list»};
+ghost use Rattle.chain.specs.Chains.{Built, Pair, Stored, paired, numbered_node};
 
-use cells::{Data, NONE, Ref, alloc, data_word, left, make, new, open, release, set_root, share};
+use cells::{NONE, Node, Ref, alloc, data_word, left, make, new, open, release, set_root, share};
 use words::Words;
 
 /// A list of cells, and how many it has.
@@ -15,11 +15,13 @@ pub struct CellList {
     pub cells: u32,
 }
 
-/// The data of cell `k`.
-fn numbered(k: u32) -> Data
-    ensures { result ≡ «numbered-list» k }
+/// Cell `k`, with these children.
+fn numbered(k: u32, left: Ref, right: Ref) -> Node
+    ensures { result ≡ numbered_node k left right }
 {
-    [k, 0, 0, 0, 0, 0, 0, 0, 0, 0, 0, 0, 0]
+    let mut data = [0; 13];
+    data[0] = k;
+    Node { left, right, data }
 }
 
 /// As many cells, one behind another, as there is room for, at most `most`.
@@ -30,7 +32,7 @@ pub fn build<W: Words>(words: &mut W, most: u32) -> CellList
 {
     let mut first = NONE;
     for k in 0..most {
-        match alloc(words, NONE, first, numbered(k)) {
+        match alloc(words, numbered(k, NONE, first)) {
             Some(d) => first = d,
             None => return CellList { first, cells: k },
         }
@@ -78,8 +80,8 @@ pub fn pair<W: Words>(words: &mut W, n: u32) -> Option<Ref>
     requires fits { n < 1000 }
     ensures { Have (W.Words.row words.new) (opt result (paired n) []) }
 {
-    let below = make(words, NONE, NONE, numbered(n))?;
-    make(words, below, NONE, numbered(n + 1))
+    let below = make(words, numbered(n, NONE, NONE))?;
+    make(words, numbered(n + 1, below, NONE))
 }
 
 /// The number of the cell below `p`.
@@ -110,7 +112,7 @@ pub fn refuses<W: Words>(words: &mut W) -> bool
     requires { (items : List Item) × Have (W.Words.row words.old) items }
 {
     let before = checksum(words);
-    let refused = alloc(words, NONE, NONE, numbered(0)).is_none();
+    let refused = alloc(words, numbered(0, NONE, NONE)).is_none();
     refused && checksum(words) == before
 }
 
@@ -150,7 +152,7 @@ mod tests {
         words.grow(176)?;
         assert_eq!(rt; number_below(&mut words, two), 1);
         assert!(rt;
-            make(&mut words, two, NONE, numbered(3)).is_some(),
+            make(&mut words, numbered(3, two, NONE)).is_some(),
             "there is room for a third"
         );
         Ok(())

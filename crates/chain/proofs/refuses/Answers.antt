@@ -8,4 +8,4 @@ pub alloc-requires : goal.alloc-requires
 alloc-requires g c =
     let items = c.requires.0 in
     let h = subst (λ m. Have m items) (sym c.checksum-before.ensures) c.requires.1 in
-    record { left = none; right = none; rest = items; have = have_none _ (item 0 none ∷ items) (have_none _ items h) }
+    rw c.numbered.ensures (record { left = none; right = none; rest = items; have = have_none _ (item 0 none ∷ items) (have_none _ items h) })

@@ -8,8 +8,8 @@ release_both-requires g c = rw c.in-None.ensures.made.same c.requires
 
 pub returns-in-None : goal.returns-in-None
 returns-in-None g c =
-    let l = c.args.left.0 in
-    let r = c.args.right.0 in
+    let l = c.args.node.left.0 in
+    let r = c.args.node.right.0 in
     record {
       made = record {
         full = c.in-None.ensures.made.full;

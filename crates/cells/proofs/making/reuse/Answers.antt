@@ -21,10 +21,10 @@ release_both-requires g c =
     let row = g.W.Words.row in
     let m = row c.args.words.now in
     let d = c.args.d.0 in
-    let w = c.args.data in
+    let w = c.args.node.data in
     let m1 = put m 0 1 (at m d 3) in
     let thirteen : length w ≡ 13 = search rules in
-    let is : row c.fill.new.words ≡ filled m1 d c.args.left.0 c.args.right.0 w = cc in
+    let is : row c.fill.new.words ≡ filled m1 d c.args.node.left.0 c.args.node.right.0 w = cc in
     let a : c.children_of-old.result.left.0 ≡ at m1 d 1 = cc in
     let b : c.children_of-old.result.right.0 ≡ at m1 d 2 = cc in
     after_drop m _ d _ _ _ _ w c.requires thirteen is a b
@@ -34,10 +34,10 @@ returns g c =
     let row = g.W.Words.row in
     let m = row c.args.words.now in
     let d = c.args.d.0 in
-    let w = c.args.data in
+    let w = c.args.node.data in
     let m1 = put m 0 1 (at m d 3) in
     let thirteen : length w ≡ 13 = search rules in
-    let is : row c.fill.new.words ≡ filled m1 d c.args.left.0 c.args.right.0 w = cc in
+    let is : row c.fill.new.words ≡ filled m1 d c.args.node.left.0 c.args.node.right.0 w = cc in
     let a : c.children_of-old.result.left.0 ≡ at m1 d 1 = cc in
     let b : c.children_of-old.result.right.0 ≡ at m1 d 2 = cc in
     record {

@@ -19,9 +19,9 @@ pub make-requires : goal.make-requires
 make-requires g c =
     let x = item c.in-Some.two.0 (paired 1) in
     let h = longer _ _ 176 (x ∷ []) c.in_ok-grow.ensures.cases c.in-Some.ensures in
-    record {
+    rw c.numbered.ensures (record {
       left = paired 1;
       right = none;
       rest = [];
       have = none_second _ x [] (subst (λ m. Have m (x ∷ [])) (sym c.number_below.ensures.same) h);
-    }
+    })
