@@ -20,10 +20,13 @@ pub trait Words {
     /// The word at `i`.
     fn get(&mut self, i: usize) -> u32
         requires { i < length (row self.old) }
-        ensures { (result ≡ slice_index (row self.old) i) × ((row self.new ≡ row self.old) × (touched self.new ≡ min 9223372036854775807 (touched self.old + 1))) };
+        ensures value { result ≡ slice_index (row self.old) i }
+        ensures same { row self.new ≡ row self.old }
+        ensures touches { touched self.new ≡ min 9223372036854775807 (touched self.old + 1) };
 
     /// Writes `x` at `i`.
     fn put(&mut self, i: usize, x: u32)
         requires { i < length (row self.old) }
-        ensures { (row self.new ≡ slice_set (row self.old) i x) × (touched self.new ≡ min 9223372036854775807 (touched self.old + 1)) };
+        ensures written { row self.new ≡ slice_set (row self.old) i x }
+        ensures touches { touched self.new ≡ min 9223372036854775807 (touched self.old + 1) };
 }

@@ -1,20 +1,23 @@
-use Rattle.std.proofs.Common.{◌<◌, length, vec_items, sym, ◌∙◌, arith}
-use Rattle.words.proofs.Padding.{padded_push, padded_enough}
+use Rattle.std.proofs.Common.{◌≡◌, ◌-◌, ◌++◌, take, replicate, ◌∙◌, sym, arith, vec_items, vec_len}
+use Rattle.words.proofs.Padding.{padded_enough, padded_resize}
 use Rattle.words.proofs.heap_words.fill_up.Goals as goal
 
-pub loop-items-preserved : goal.loop-items-preserved
-loop-items-preserved c =
-    let v = c.loop-items.items in
-    let short : length (vec_items v) < c.args.n = omega (arith, v.ok.0) in (
-      c.push_reserved.ensures.capacity ∙ c.loop-items.invariant.0,
-      simp c.push_reserved.ensures.items (padded_push (vec_items v) c.args.n short ∙ c.loop-items.invariant.1),
-    )
-
-pub returns : goal.returns
-returns c =
-    let v = c.loop-items.items in
+pub returns-then-len-n : goal.returns-then-len-n
+returns-then-len-n c =
+    let v = c.args.items.now in
+    let n = c.args.n in
+    let filled : vec_items c.resize.new.self ≡ take n (vec_items v) ++ replicate (n - vec_len v) 0 = rw c.unwrap.ensures at c.resize.ensures.items in
     record {
-      items = sym (padded_enough (vec_items v) c.args.n (omega (arith, v.ok.0))) ∙ c.loop-items.invariant.1;
+      items = filled ∙ padded_resize (vec_items v) (vec_len v) n v.ok.0 (omega arith);
+      long = let e = rw c.unwrap.ensures at c.resize.ensures.len in omega arith;
+      capacity = c.resize.ensures.capacity;
+    }
+
+pub returns-else-len-n : goal.returns-else-len-n
+returns-else-len-n c =
+    let v = c.args.items.now in
+    record {
+      items = sym (padded_enough (vec_items v) c.args.n (omega (arith, v.ok.0)));
       long = omega arith;
-      capacity = c.loop-items.invariant.0;
+      capacity = omega arith;
     }

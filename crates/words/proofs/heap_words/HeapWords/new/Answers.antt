@@ -1,4 +1,4 @@
-use Rattle.std.proofs.Common.{◌≡◌, ◌-◌, length, vec_items, refl, ap, ◌∙◌, arith}
+use Rattle.std.proofs.Common.{◌≡◌, ◌-◌, refl, ap, ◌∙◌, arith, length, vec_items}
 use Rattle.words.specs.Padded.{padded, zeros}
 use Rattle.words.proofs.Padding.{length_zeros}
 use Rattle.words.proofs.heap_words.HeapWords.new.Goals as goal
@@ -7,6 +7,5 @@ pub returns : goal.returns
 returns c =
     let n = c.args.size in
     let all : n - 0 ≡ n = omega arith in
-    let row : padded (vec_items c.in_ok-items.items) n ≡ zeros n =
-    ap (λ xs. padded xs n) c.in_ok-items.ensures.items ∙ ap zeros all in
+    let row : padded (vec_items c.in_ok-items.items) n ≡ zeros n = ap (λ xs. padded xs n) c.in_ok-items.ensures.items ∙ ap zeros all in
     (row, ap length row ∙ length_zeros n, refl)

@@ -1,6 +1,8 @@
-use Rattle.std.proofs.Common.{vec_items, sym}
+use Rattle.std.proofs.Common.{length, vec_items, sym, ap, ◌∙◌}
 use Rattle.words.proofs.Padding.{padded_length}
 use Rattle.words.proofs.heap_words.HeapWordsWords.count.Goals as goal
 
 pub returns : goal.returns
-returns c = let s = c.args.self.now in sym (padded_length (vec_items s.items) s.size s.within)
+returns c =
+    let s = c.self.inside in
+    sym (padded_length (vec_items s.items) s.size c.self.invariant.0) ∙ ap (λ v. length v.row) c.self.view_is
