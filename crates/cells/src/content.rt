@@ -8,17 +8,6 @@ use words::Words;
 /// What a cell holds besides its children.
 pub type Data = [u32; 13];
 
-/// Writes data word `k` of cell `p`.
-fn store_word<W: Words>(words: &mut W, p: Ref, k: usize, x: u32)
-    requires word { k < 13 }
-    requires within { 16 * p.0 + 16 ≤ length (W.Words.row words.old) }
-    ensures same { W.Words.row words.new ≡ put (W.Words.row words.old) p.0 (3 + k) x }
-    ensures long { length (W.Words.row words.new) ≡ length (W.Words.row words.old) }
-    ensures touches { W.touched words.new ≤ W.touched words.old + 1 }
-{
-    write(words, p, DATA + k, x);
-}
-
 /// Data word `k` of cell `p`.
 pub(crate) fn load_word<W: Words>(words: &mut W, p: Ref, k: usize) -> u32
     requires word { k < 13 }
@@ -37,8 +26,8 @@ pub(crate) fn store<W: Words>(words: &mut W, p: Ref, data: Data)
     ensures long { length (W.Words.row words.new) ≡ length (W.Words.row words.old) }
     ensures touches { W.touched words.new ≤ W.touched words.old + 13 }
 {
-    for k in 0..13 {
-        store_word(words, p, k, data[k]);
+    for (k, x) in data.iter().enumerate() {
+        write(words, p, DATA + k, *x);
     }
 }
 
@@ -50,8 +39,8 @@ pub(crate) fn load<W: Words>(words: &mut W, p: Ref) -> Data
     ensures touches { W.touched words.new ≤ W.touched words.old + 13 }
 {
     let mut data = [0; 13];
-    for k in 0..13 {
-        data[k] = load_word(words, p, k);
+    for (k, x) in data.iter_mut().enumerate() {
+        *x = load_word(words, p, k);
     }
     data
 }

@@ -10,9 +10,9 @@ pub loop-i-preserved : goal.loop-i-preserved
 loop-i-preserved g c =
     let m = g.W.Words.row c.args.words.now in
     let i = c.loop-i.i in (
-      c.put.ensures.0 ∙ ap (λ z. set z i 0) c.loop-i.invariant.0 ∙ clear_more m i (omega arith),
-      ap length c.put.ensures.0 ∙ length-set (g.W.Words.row c.loop-i.words) i 0 ∙ c.loop-i.invariant.1,
-      omega (arith, c.put.ensures.1, c.loop-i.invariant.2),
+      c.put.ensures.written ∙ ap (λ z. set z i 0) c.loop-i.invariant.0 ∙ clear_more m i (omega arith),
+      ap length c.put.ensures.written ∙ length-set (g.W.Words.row c.loop-i.words) i 0 ∙ c.loop-i.invariant.1,
+      omega (arith, c.put.ensures.touches, c.loop-i.invariant.2),
     )
 
 pub returns : goal.returns

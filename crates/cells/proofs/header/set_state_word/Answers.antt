@@ -9,7 +9,7 @@ returns g c =
     let i = c.args.i in
     let x = c.args.x in
     record {
-      state = rw c.put.ensures.0 (state_set m i x c.requires.word);
-      stays = rw c.put.ensures.0 (stays m i x c.requires.word);
+      state = rw c.put.ensures.written (state_set m i x c.requires.word);
+      stays = rw c.put.ensures.written (stays m i x c.requires.word);
       touches = search rules;
     }
