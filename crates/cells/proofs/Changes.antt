@@ -24,8 +24,8 @@ apart m n d z q lo hi = (λ e. omega (arith, ins_one m 1 d q n lo hi e), λ e. o
 pub not_held : (p : ℕ) (xs : List ℕ) → occ p xs ≡ 0 → (q : ℕ) → 0 < occ q xs → q ≢ p
 not_held p xs z q h e = omega (arith, subst (λ y. 0 < occ y xs) e h)
 
--- only how often each reference is held matters
-pub sound_same : (m xs ys : List ℕ) → ((p : ℕ) → occ p xs ≡ occ p ys) → Sound m xs → Sound m ys
+-- only how often each reference but none is held matters
+pub sound_same : (m xs ys : List ℕ) → ((p : ℕ) → 1 ≤ p → occ p xs ≡ occ p ys) → Sound m xs → Sound m ys
 sound_same m xs ys same s =
     let a = s.counted in
     record {
@@ -35,10 +35,10 @@ sound_same m xs ys same s =
         top = a.top;
         few = a.few;
         fits = a.fits;
-        holds = λ p h. a.holds p (omega (arith, same p));
+        holds = λ p h one. a.holds p (omega (arith, same p one)) one;
         left = a.left;
         right = a.right;
-        counts = λ p lo hi. omega (arith, a.counts p lo hi, same p);
+        counts = λ p lo hi. omega (arith, a.counts p lo hi, same p (omega arith));
       };
       listed = s.listed;
       ranked = s.ranked;

@@ -1,5 +1,6 @@
 -- A fresh header, a write to the state, and zeros behind the row.
 use Rattle.std.proofs.Common.{◌≡◌, ℕ, ◌+◌, ◌<◌, ◌≤◌, List, [], ◌++◌, length, get_or, take, drop, set, replicate, refl, ap, ◌∙◌, subst, arith, length-append}
+use Rattle.std.proofs.Math.Seq.{take-set-lt}
 use Rattle.std.proofs.lemmas.List.{length-set, length-drop, get_or-take, take-set-le}
 use Rattle.words.specs.Padded.{zeros}
 use Rattle.cells.specs.Layout.{cell, at, state, roots, taken, first_dead, fresh}
@@ -8,7 +9,6 @@ use Rattle.cells.specs.Sound.{Sound}
 use Rattle.cells.specs.Have.{Item, refs, Have, Lent}
 use Rattle.cells.specs.Steps.{Begun, Stays}
 use Rattle.cells.specs.Theorems.{LongerRow}
-use Rattle.cells.proofs.Lists.{take_set}
 use Rattle.cells.proofs.Rows.{at_cell, cell_state, cell_longer, state_longer}
 use Rattle.cells.proofs.Held.{Agree, have_agree, val_agree}
 
@@ -99,7 +99,7 @@ pub root_word : (m : List ℕ) (k : ℕ) → k < 16 → get_or (roots m) k 0 ≡
 root_word m k lt = get_or-take 16 (state m) k 0 lt
 
 pub roots_set : (m m' : List ℕ) (k x : ℕ) → k < 16 → state m' ≡ set (state m) k x → roots m' ≡ set (roots m) k x
-roots_set m m' k x lt e = ap (take 16) e ∙ take_set 16 (state m) k x lt
+roots_set m m' k x lt e = ap (take 16) e ∙ take-set-lt 16 (state m) k x lt
 
 pub roots_same : (m m' : List ℕ) (k x : ℕ) → 16 ≤ k → state m' ≡ set (state m) k x → roots m' ≡ roots m
 roots_same m m' k x le e = ap (take 16) e ∙ take-set-le 16 (state m) k x le

@@ -20,46 +20,14 @@ length_refs (x ∷ xs) = ap suc (length_refs xs)
 
 -- the order of what is held does not matter
 pub reorder : (m : List ℕ) (xs ys : List Item) → ((p : ℕ) → occ p (refs xs) ≡ occ p (refs ys)) → (Stand m xs → Stand m ys) → Have m xs → Have m ys
-reorder m xs ys same stand h = record { sound = sound_same m (refs xs) (refs ys) same h.sound; stand = stand h.stand }
+reorder m xs ys same stand h = record { sound = sound_same m (refs xs) (refs ys) (λ p _. same p) h.sound; stand = stand h.stand }
 
 -- none more or fewer
 pub sound_some : (m xs : List ℕ) → Sound m xs → Sound m (0 ∷ xs)
-sound_some m xs s =
-    let a = s.counted in
-    record {
-      cells = s.cells;
-      dead = s.dead;
-      counted = record {
-        top = a.top;
-        few = a.few;
-        fits = a.fits;
-        holds = λ p h one. a.holds p (omega (arith, hit_ne 0 p (omega arith))) one;
-        left = a.left;
-        right = a.right;
-        counts = λ p lo hi. omega (arith, a.counts p lo hi, hit_ne 0 p (omega arith));
-      };
-      listed = s.listed;
-      ranked = s.ranked;
-    }
+sound_some m xs s = sound_same m xs (0 ∷ xs) (λ p one. omega (arith, hit_ne 0 p (omega arith))) s
 
 pub sound_none : (m xs : List ℕ) → Sound m (0 ∷ xs) → Sound m xs
-sound_none m xs s =
-    let a = s.counted in
-    record {
-      cells = s.cells;
-      dead = s.dead;
-      counted = record {
-        top = a.top;
-        few = a.few;
-        fits = a.fits;
-        holds = λ p h. a.holds p (omega arith);
-        left = a.left;
-        right = a.right;
-        counts = λ p lo hi. omega (arith, a.counts p lo hi, hit_ne 0 p (omega arith));
-      };
-      listed = s.listed;
-      ranked = s.ranked;
-    }
+sound_none m xs s = sound_same m (0 ∷ xs) xs (λ p one. omega (arith, hit_ne 0 p (omega arith))) s
 
 -- none may be held more often or less
 pub have_none : (m : List ℕ) (xs : List Item) → Have m xs → Have m (item 0 none ∷ xs)

@@ -1,7 +1,6 @@
 -- Laws of lists: a write, a part of a list, and a list with another written over it.
-use Rattle.std.proofs.Common.{◌≡◌, ℕ, zero, suc, ◌+◌, ◌-◌, ◌<◌, ◌≤◌, min, List, [], ◌∷◌, ◌++◌, length, get_or, take, drop, set, sym, refl, ap, ◌∙◌, inl, inr, arith}
-use Rattle.std.proofs.lemmas.List.{length-take, length-drop, length-append, length-set, get_or-take, get_or-drop, get_or-set_same, get_or-set_other, get_or_append_left, get_or-append_right, take-append-drop, length-take-le, ext_get_or}
-use Rattle.std.proofs.lemmas.Bool.{cases_lt, cases_eq}
+use Rattle.std.proofs.Common.{◌≡◌, ℕ, ◌+◌, ◌-◌, ◌<◌, ◌≤◌, min, List, [], ◌∷◌, ◌++◌, length, get_or, take, drop, set, sym, refl, ap, ◌∙◌, append_assoc, arith}
+use Rattle.std.proofs.lemmas.List.{length-take, length-drop, length-append, get_or-take, get_or-drop, get_or_append_left, get_or-append_right, take-append-drop, length-take-le, ext_get_or, set_at, drop_more, take_more}
 use Rattle.cells.specs.Layout.{over}
 
 -- the same part of two lists that agree there
@@ -14,13 +13,6 @@ part_same m m' i n long same =
 
 pub get_or_part : (m : List ℕ) (i n k : ℕ) → k < n → get_or (take n (drop i m)) k 0 ≡ get_or m (i + k) 0
 get_or_part m i n k h = get_or-take n (drop i m) k 0 h ∙ get_or-drop i m k 0
-
--- a write within a part
-pub take_set : (n : ℕ) (xs : List ℕ) (i x : ℕ) → i < n → take n (set xs i x) ≡ set (take n xs) i x
-take_set zero xs i x h = absurd (omega arith)
-take_set (suc n) [] i x h = refl
-take_set (suc n) (y ∷ ys) zero x h = refl
-take_set (suc n) (y ∷ ys) (suc i) x h = ap (λ zs. y ∷ zs) (take_set n ys i x (omega arith))
 
 pub over_none : (m : List ℕ) (i : ℕ) → over m i [] ≡ m
 unfolding over
@@ -54,36 +46,23 @@ get_or_over_past m i k xs h le =
 
 -- one more of a list is written
 pub over_more : (m : List ℕ) (i k : ℕ) (xs : List ℕ) → k < length xs → i + length xs ≤ length m → set (over m i (take k xs)) (i + k) (get_or xs k 0) ≡ over m i (take (k + 1) xs)
+unfolding over
 over_more m i k xs lt h =
-    let old = over m i (take k xs) in
-    let new = over m i (take (k + 1) xs) in
+    let y = get_or xs k 0 in
+    let front = take i m ++ take k xs in
+    let rest = drop (i + k + 1) m in
+    let e : i + (k + 1) ≡ i + k + 1 = omega arith in
     let few : length (take k xs) ≡ k = length-take-le k xs (omega arith) in
     let more : length (take (k + 1) xs) ≡ k + 1 = length-take-le (k + 1) xs (omega arith) in
-    let long_old = length_over m i (take k xs) (omega arith) in
-    let long_new = length_over m i (take (k + 1) xs) (omega arith) in
-    ext_get_or 0 (set old (i + k) (get_or xs k 0)) new (simp length-set (long_old ∙ sym long_new)) (λ j hj.
-    elim (cases_lt j i) [
-      | inl a ↦
-          get_or-set_other old (i + k) j (get_or xs k 0) 0 (omega arith)
-          ∙ get_or_over_below m i j (take k xs) (omega arith) a ∙ sym (get_or_over_below m i j (take (k + 1) xs) (omega arith) a)
-      | inr a ↦ elim (cases_lt j (i + k)) [
-        | inl b ↦
-            let e : i + (j - i) ≡ j = omega arith in
-            get_or-set_other old (i + k) j (get_or xs k 0) 0 (omega arith)
-            ∙ inside j (take k xs) a (omega arith) ∙ get_or-take k xs (j - i) 0 (omega arith)
-            ∙ sym (inside j (take (k + 1) xs) a (omega arith) ∙ get_or-take (k + 1) xs (j - i) 0 (omega arith))
-        | inr b ↦ elim (cases_eq j (i + k)) [
-          | inl c ↦
-              ap (λ z. get_or (set old (i + k) (get_or xs k 0)) z 0) c ∙ get_or-set_same old (i + k) (get_or xs k 0) 0 (omega arith)
-              ∙ sym (get_or-take (k + 1) xs k 0 (omega arith)) ∙ sym (get_or_over m i k (take (k + 1) xs) (omega arith) (omega arith)) ∙ ap (λ z. get_or new z 0) (sym c)
-          | inr c ↦
-              get_or-set_other old (i + k) j (get_or xs k 0) 0 c
-              ∙ get_or_over_past m i j (take k xs) (omega arith) (omega arith) ∙ sym (get_or_over_past m i j (take (k + 1) xs) (omega arith) (omega arith))
-        ]
-      ]
-    ])
-  where
-    inside : (j : ℕ) (ys : List ℕ) → i ≤ j → j < i + length ys → get_or (over m i ys) j 0 ≡ get_or ys (j - i) 0
-    inside j ys a b =
-        let e : j ≡ i + (j - i) = omega arith in
-        ap (λ z. get_or (over m i ys) z 0) e ∙ get_or_over m i (j - i) ys (omega arith) (omega arith)
+    let long : length front ≡ i + k = simp (length-append, length-take) (omega arith) in
+    let before : over m i (take k xs) ≡ front ++ get_or m (i + k) 0 ∷ rest =
+    ap (λ n. take i m ++ (take k xs ++ drop (i + n) m)) few
+    ∙ ap (λ d. take i m ++ (take k xs ++ d)) (drop_more m (i + k) 0 (omega arith))
+    ∙ sym (append_assoc (take i m) (take k xs) (get_or m (i + k) 0 ∷ rest)) in
+    let after : over m i (take (k + 1) xs) ≡ front ++ y ∷ rest =
+    ap (λ n. take i m ++ (take (k + 1) xs ++ drop (i + n) m)) more
+    ∙ ap (λ n. take i m ++ (take (k + 1) xs ++ drop n m)) e
+    ∙ ap (λ t. take i m ++ (t ++ rest)) (take_more xs k 0 lt)
+    ∙ ap (λ t. take i m ++ t) (append_assoc (take k xs) (y ∷ []) rest)
+    ∙ sym (append_assoc (take i m) (take k xs) (y ∷ rest)) in
+    ap (λ r. set r (i + k) y) before ∙ set_at front (get_or m (i + k) 0) rest y (i + k) long ∙ sym after

@@ -1,12 +1,14 @@
 -- No cell is lost, and where none is dead there are no more cells than the trees of what is held have.
-use Rattle.std.proofs.Common.{◌≡◌, ℕ, zero, suc, ◌+◌, ◌<◌, ◌≤◌, ◌⊎◌, List, [], ◌∷◌, ◌++◌, length, sym, refl, ap, ◌∙◌, subst, inl, inr, ⊎_elim, arith, length-append}
-use Rattle.std.proofs.lemmas.Bool.{cases_eq, cases_lt}
+use Rattle.std.proofs.Common.{◌≡◌, ℕ, zero, suc, ◌+◌, ◌<◌, ◌≤◌, ◌⊎◌, true, eqb, List, [], ◌∷◌, ◌++◌, length, sym, refl, ap, ◌∙◌, subst, inl, inr, ⊎_elim, arith, length-append}
+use Rattle.std.proofs.lemmas.Bool.{eq-eqb, ne_eqb, cases_eq, cases_lt}
+use Rattle.std.proofs.lemmas.Map.Steps.{le-length_from_below}
+use Rattle.std.specs.List.{list_any, range_with_len}
 use Rattle.cells.specs.Layout.{at, taken, first_dead}
 use Rattle.cells.specs.Tree.{Tree, none, node, Val, nodes}
-use Rattle.cells.specs.Sound.{hit, occ, ins, DeadList, Sound}
+use Rattle.cells.specs.Sound.{occ, ins, DeadList, Sound}
 use Rattle.cells.specs.Have.{Item, item, refs, Stand, all_nodes}
 use Rattle.cells.specs.Theorems.{Under, here, leftward, rightward, NoCellLost, Counting}
-use Rattle.cells.proofs.Tallies.{hit_eq, hit_ne, hit_le, ins_find, occ_append}
+use Rattle.cells.proofs.Tallies.{hit_eq, hit_ne, ins_find, occ_append}
 use Rattle.cells.proofs.Trees.{bound}
 
 -- a cell is among the dead, if its count is 0
@@ -121,48 +123,33 @@ held_cell m (item q v ∷ xs) s h p i u lo =
     (λ (ne : q ≡ h → ⊥). omega (arith, held_cell m xs s.1 h p (omega (arith, hit_ne q h ne)) u lo))
     (cases_eq q h)
 
--- how often the numbers below n stand in a list
-abbrev below : ℕ → List ℕ → ℕ
-below zero xs = 0
-below (suc n) xs = below n xs + occ n xs
+-- what stands in a list is found there
+found : (q : ℕ) (xs : List ℕ) → 0 < occ q xs → list_any (eqb q) xs ≡ true
+found q [] h = absurd (omega arith)
+found q (x ∷ xs) h =
+    elim (cases_eq q x) [
+      | inl e ↦ rw (eq-eqb q x e) refl
+      | inr ne ↦ rw (ne_eqb q x ne) (found q xs (omega (arith, hit_ne x q (λ e. ne (sym e)))))
+    ]
 
-below_none : (n : ℕ) → below n [] ≡ 0
-below_none zero = refl
-below_none (suc n) = omega (arith, below_none n)
-
--- and how often one number is below n
-hits : (n x : ℕ) → ℕ
-hits zero x = 0
-hits (suc n) x = hits n x + hit x n
-
-hits_past : (n x : ℕ) → n ≤ x → hits n x ≡ 0
-unfolding hits
-hits_past zero x h = refl
-hits_past (suc n) x h = omega (arith, hits_past n x (omega arith), hit_ne x n (λ e. omega arith))
-
-hits_one : (n x : ℕ) → hits n x ≤ 1
-unfolding hits
-hits_one zero x = omega arith
-hits_one (suc n) x =
-    ⊎_elim (λ (e : x ≡ n). omega (arith, hits_past n x (omega arith), hit_le x n)) (λ (ne : x ≡ n → ⊥). omega (arith, hits_one n x, hit_ne x n ne)) (cases_eq x n)
-
-below_more : (n x : ℕ) (xs : List ℕ) → below n (x ∷ xs) ≡ hits n x + below n xs
-unfolding hits
-below_more zero x xs = refl
-below_more (suc n) x xs = omega (arith, below_more n x xs)
-
-below_length : (n : ℕ) (xs : List ℕ) → below n xs ≤ length xs
-below_length n [] = omega (arith, below_none n)
-below_length n (x ∷ xs) = omega (arith, below_more n x xs, hits_one n x, below_length n xs)
-
-below_all : (n : ℕ) (xs : List ℕ) → ((p : ℕ) → 8 ≤ p → p < n → 0 < occ p xs) → n ≤ 8 + below n xs
-below_all zero xs h = omega arith
-below_all (suc n) xs h =
-    let rest = below_all n xs (λ p lo lt. h p lo (omega arith)) in
-    ⊎_elim (λ (lt : n < 8). omega arith) (λ (lo : 8 ≤ n). omega (arith, h n lo (omega arith))) (cases_lt n 8)
+-- a list that has each number from 8 on and below n
+enough : (n : ℕ) (xs : List ℕ) → ((p : ℕ) → 8 ≤ p → p < n → 0 < occ p xs) → n ≤ 8 + length xs
+enough n xs h =
+    omega (
+      arith,
+      le-length_from_below (range_with_len 0 8 ++ xs) n (λ q lt. found q (range_with_len 0 8 ++ xs) (stands q lt)),
+      length-append (range_with_len 0 8) xs,
+    )
+  where
+    stands : (q : ℕ) → q < n → 0 < occ q (range_with_len 0 8 ++ xs)
+    stands q lt =
+        elim (cases_lt q 8) [
+          | inl few ↦ grind (arith, hit_eq)
+          | inr lo ↦ omega (arith, occ_append q (range_with_len 0 8) xs, h q lo lt)
+        ]
 
 pub counting : Counting
 counting m xs h none_dead =
     let listed : (p : ℕ) → 8 ≤ p → p < taken m → 0 < occ p (all_cells m xs) =
     λ p lo lt. (let r = all_held m (refs xs) h.sound none_dead p lo lt in held_cell m xs h.stand r.0 p r.1 r.2 lo) in
-    omega (arith, below_all (taken m) (all_cells m xs) listed, below_length (taken m) (all_cells m xs), all_length m xs)
+    omega (arith, enough (taken m) (all_cells m xs) listed, all_length m xs)

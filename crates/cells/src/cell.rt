@@ -8,6 +8,7 @@ use words::Words;
 #[derive(Clone, Copy, PartialEq, Eq)]
 pub struct Ref(pub(crate) u32);
 
+// Kept: a number for none, since a reference is stored as one counted word, where 0 stands for none; an `Option` would be converted at each read and write of a child.
 /// Refers to nothing.
 pub const NONE: Ref = Ref(0);
 
@@ -41,6 +42,7 @@ impl Ref {
     }
 }
 
+// Kept: that cell `p` lies within the row stands in each contract below, since a `Ref` is a number that says nothing of a row, and a type for both would have to borrow the row.
 /// Word `k` of cell `p`.
 pub(crate) fn word<W: Words>(words: &mut W, p: Ref, k: usize) -> u32
     requires word { k < 16 }

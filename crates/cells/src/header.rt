@@ -20,6 +20,7 @@ const HEADER_WORDS: usize = 128;
 /// How many cells the header has.
 const HEADER_CELLS: u32 = 8;
 
+// Kept: that the row is as long as the header stands in each contract below, since the row is whatever implements `Words`, and a type around it would have to be made at each call.
 /// Writes 0 to each word of the header.
 fn clear<W: Words>(words: &mut W)
     requires { 128 ≤ length (W.Words.row words.old) }

@@ -122,13 +122,12 @@ pub fn alloc<W: Words>(words: &mut W, node: Node) -> Option<Ref>
     ensures kept { Kept (W.Words.row words.old) (W.Words.row words.new) }
     ensures touches { W.touched words.new ≤ W.touched words.old + 31 }
 {
-    let first = word(words, HEADER, FIRST_DEAD);
-    if first != 0 {
-        reuse(words, Ref(first), node);
-        Some(Ref(first))
-    } else {
-        extend(words, node)
+    let first = Ref(word(words, HEADER, FIRST_DEAD));
+    if first.is_none() {
+        return extend(words, node);
     }
+    reuse(words, first, node);
+    Some(first)
 }
 
 /// A new node with these children, or none, and both let go, where there is no room.

@@ -1,6 +1,6 @@
 use Rattle.std.proofs.Common.{◌≡◌, length, set, refl, ap, ◌∙◌, arith, length-set}
 use Rattle.cells.specs.Layout.{cleared}
-use Rattle.cells.proofs.Rows.{clear_more}
+use Rattle.std.proofs.lemmas.List.Edits.{fill_more}
 use Rattle.cells.proofs.header.clear.Goals as goal
 
 pub loop-i-init : goal.loop-i-init
@@ -10,7 +10,7 @@ pub loop-i-preserved : goal.loop-i-preserved
 loop-i-preserved g c =
     let m = g.W.Words.row c.args.words.now in
     let i = c.loop-i.i in (
-      c.put.ensures.written ∙ ap (λ z. set z i 0) c.loop-i.invariant.0 ∙ clear_more m i (omega arith),
+      c.put.ensures.written ∙ ap (λ z. set z i 0) c.loop-i.invariant.0 ∙ fill_more i 0 m (omega arith),
       ap length c.put.ensures.written ∙ length-set (g.W.Words.row c.loop-i.words) i 0 ∙ c.loop-i.invariant.1,
       omega (arith, c.put.ensures.touches, c.loop-i.invariant.2),
     )
