@@ -9,7 +9,7 @@ const WORDS: usize = 300000000;
 
 const CELLS: u32 = 1000;
 
-fn run(rt: &HostRuntime) -> anyhow::Result<()> {
+fn main(rt: HostRuntime) -> anyhow::Result<()> {
     let mut words = HeapWords::new(rt.alloc(), WORDS)?;
     new(&mut words);
     let list = build(&mut words, CELLS);
@@ -17,8 +17,4 @@ fn run(rt: &HostRuntime) -> anyhow::Result<()> {
     let cells = list.cells;
     println!(rt; "{cells} cells in a row of {count} words")?;
     Ok(())
-}
-
-fn main(rt: HostRuntime) -> anyhow::Result<()> {
-    run(&rt)
 }

@@ -22,7 +22,7 @@ pub loop-k-preserved : goal.loop-k-preserved
 loop-k-preserved g c =
     let m = g.W.Words.row c.alloc.new.words in
     let k = c.loop-k.k in
-    let d = c.in-Some.d.0 in
+    let d = c.in-Some.cell.0 in
     let made : Made (g.W.Words.row c.loop-k.words) m d 0 c.loop-k.first.0 (numbered k) = rw c.numbered.ensures at c.in-Some.ensures.made in
     let h = made.have none (chained k) [] (have_none _ (item c.loop-k.first.0 (chained k) ∷ []) c.loop-k.invariant.0) in
     (subst (λ n. Have m (item d (chained n) ∷ [])) (sym (add-one k)) h, c.in-Some.ensures.kept.long ∙ c.loop-k.invariant.1)

@@ -1,8 +1,9 @@
-use Rattle.std.proofs.Common.{◌≡◌, ℕ, List, get_or, sym, ap, ◌∙◌, subst, arith}
+use Rattle.std.proofs.Common.{◌≡◌, ℕ, List, get_or, sym, ap, ◌∙◌, subst, arith, rules, [], ◌∷◌}
 use Rattle.std.proofs.lemmas.List.{get_or-set_same}
+use Rattle.cells.specs.Have.{Have, item}
 use Rattle.cells.specs.Layout.{state}
 use Rattle.cells.proofs.Rows.{length_state}
-use Rattle.chain.specs.Chains.{Pair, Stored}
+use Rattle.chain.specs.Chains.{Pair, Stored, paired}
 use Rattle.chain.proofs.Storing.{pair_long}
 use Rattle.chain.proofs.tests.finds_what_it_stored.Goals as goal
 
@@ -13,14 +14,7 @@ found m m' m'' p q x a s is same =
     let e : q ≡ p = is ∙ root in
     subst (λ z. Pair z q) (sym same) (subst (λ z. Pair m' z) (sym e) (record { number = a.number; have = s.have a.number a.have }))
 
-pub store-requires : goal.store-requires
-store-requires g c = record { number = 5; have = c.in-Some.ensures }
-
-pub root-found-requires : goal.root-found-requires
-root-found-requires g c =
-    let a : Pair _ c.in-Some.two.0 = record { number = 5; have = c.in-Some.ensures } in
-    record { root = omega arith; long = omega (arith, pair_long _ _ a, c.store.ensures.long) }
-
 pub number_below-requires : goal.number_below-requires
 number_below-requires g c =
-    found _ _ _ c.in-Some.two.0 _ _ (record { number = 5; have = c.in-Some.ensures }) c.store.ensures c.root-found.ensures.value c.root-found.ensures.same
+    let h : Have (c.pair.new.words.row) (item c.in_ok-two.two.0 (paired 5) ∷ []) = search rules in
+    found _ _ _ c.in_ok-two.two.0 _ _ (record { number = 5; have = h }) c.store.ensures c.root-found.ensures.value c.root-found.ensures.same

@@ -1,4 +1,4 @@
-use Rattle.std.proofs.Common.{◌≡◌, ℕ, ◌-◌, List, [], ◌∷◌, length, sym, subst}
+use Rattle.std.proofs.Common.{◌≡◌, ℕ, ◌-◌, List, [], ◌∷◌, length, sym, subst, rules}
 use Rattle.words.specs.Padded.{padded}
 use Rattle.cells.specs.Tree.{none}
 use Rattle.cells.specs.Have.{Item, item, Have}
@@ -13,12 +13,15 @@ longer m m' n items e h = subst (λ z. Have z items) (sym e) (longer_row m items
 
 pub number_below-requires : goal.number_below-requires
 number_below-requires g c =
-    record { number = 1; have = longer _ _ 176 (item c.in-Some.two.0 (paired 1) ∷ []) c.in_ok-grow.ensures.cases c.in-Some.ensures }
+    let two : List Item = item c.in_ok-two.two.0 (paired 1) ∷ [] in
+    let h : Have c.pair.new.words.row two = search rules in
+    record { number = 1; have = longer _ _ 176 two c.in_ok-grow.ensures.cases h }
 
 pub make-requires : goal.make-requires
 make-requires g c =
-    let x = item c.in-Some.two.0 (paired 1) in
-    let h = longer _ _ 176 (x ∷ []) c.in_ok-grow.ensures.cases c.in-Some.ensures in
+    let x = item c.in_ok-two.two.0 (paired 1) in
+    let two : Have c.pair.new.words.row (x ∷ []) = search rules in
+    let h = longer _ _ 176 (x ∷ []) c.in_ok-grow.ensures.cases two in
     rw c.numbered.ensures (record {
       left = paired 1;
       right = none;
