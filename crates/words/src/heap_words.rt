@@ -1,8 +1,8 @@
 //! A row of words on C's heap. Its memory is reserved at once and touched only as words are first
 //! written: what was never written is no item of the vector, and reads as 0.
-ghost use Rattle.std.specs.Prelude.{◌≡◌, ℕ, ◌+◌, ◌<◌, ◌≤◌, min, length, IfOk, vec_len, vec_capacity, MatchResult};
+ghost use Rattle.std.specs.Prelude.{◌≡◌, ◌≤◌, length, IfOk, vec_len, vec_capacity, MatchResult};
 ghost use Rattle.words.specs.Padded.{padded, zeros};
-ghost use Rattle.words.specs.Counted.{Counted};
+ghost use Rattle.words.specs.Counted.{Counted, touched_once};
 
 use crate::Words;
 use std::alloc::{AllocError, Global};
@@ -41,7 +41,7 @@ impl HeapWords {
 
     fn touch(&mut self)
         ensures row { self.new.row ≡ self.old.row }
-        ensures touches { self.new.touched ≡ min 9223372036854775807 (self.old.touched + 1) }
+        ensures touches { self.new.touched ≡ touched_once self.old.touched }
     {
         self.touches = (self.touches + 1).min(MOST_TOUCHES);
     }

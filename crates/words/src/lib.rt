@@ -1,7 +1,8 @@
 //! A row of 32-bit words by a trait that counts every touch, and such a row on C's heap.
 #![tactic(auto)]
 
-ghost use Rattle.std.specs.Prelude.{◌≡◌, ℕ, ◌+◌, ◌<◌, min, List, length, slice_index, slice_set};
+ghost use Rattle.std.specs.Prelude.{◌≡◌, ℕ, ◌<◌, List, length, slice_index, slice_set};
+ghost use Rattle.words.specs.Counted.{touched_once};
 
 mod heap_words;
 
@@ -22,11 +23,11 @@ pub trait Words {
         requires { i < length (row self.old) }
         ensures value { result ≡ slice_index (row self.old) i }
         ensures same { row self.new ≡ row self.old }
-        ensures touches { touched self.new ≡ min 9223372036854775807 (touched self.old + 1) };
+        ensures touches { touched self.new ≡ touched_once (touched self.old) };
 
     /// Writes `x` at `i`.
     fn put(&mut self, i: usize, x: u32)
         requires { i < length (row self.old) }
         ensures written { row self.new ≡ slice_set (row self.old) i x }
-        ensures touches { touched self.new ≡ min 9223372036854775807 (touched self.old + 1) };
+        ensures touches { touched self.new ≡ touched_once (touched self.old) };
 }
