@@ -69,7 +69,7 @@ module _ (m : List ℕ) (p l r : ℕ) (is_l : l ≡ at m p 1) (is_r : r ≡ at m
 
 -- a node that was parted, and its data words as they were read before
 pub opened : (m m' : List ℕ) (p l r : ℕ) (w : List ℕ) → w ≡ drop 3 (cell m p) → Parted m m' p l r → Opened m m' p l r w
-opened m m' p l r w is_w a = record { have = a.have; word = λ u v x rest h. is_w ∙ h.stand.0.3 }
+opened m m' p l r w is_w a = record { parted = a; word = λ u v x rest h. is_w ∙ h.stand.0.3 }
 
 -- what making a node, or giving up, leaves held
 pub made_have : (m m' : List ℕ) (d : Option Ref) (l r : ℕ) (w : List ℕ) → MatchOption d (GaveUp m m' l r) (λ x. Made m m' x.0 l r w)

@@ -121,5 +121,5 @@ pub record Parted (m m' : List ℕ) (p l r : ℕ) : Type 0 where
 
 -- the same, and w are its data words
 pub record Opened (m m' : List ℕ) (p l r : ℕ) (w : List ℕ) : Type 0 where
-  pub have : (u v : Tree) (x : List ℕ) (rest : List Item) → Have m (item p (node u v x) ∷ rest) → Have m' (item l u ∷ (item r v ∷ rest))
+  pub parted : Parted m m' p l r
   pub word : (u v : Tree) (x : List ℕ) (rest : List Item) → Have m (item p (node u v x) ∷ rest) → w ≡ x

@@ -137,13 +137,11 @@ pub fn make<W: Words>(words: &mut W, node: Node) -> Option<Ref>
     ensures kept { Kept (W.Words.row words.old) (W.Words.row words.new) }
     ensures touches { MatchOption result (W.touched words.new ≤ W.touched words.old + 41) (λ _. W.touched words.new ≤ W.touched words.old + 31) }
 {
-    match alloc(words, node) {
-        Some(d) => Some(d),
-        None => {
-            release_both(words, node.left, node.right);
-            None
-        }
+    let made = alloc(words, node);
+    if made.is_none() {
+        release_both(words, node.left, node.right);
     }
+    made
 }
 
 /// Lets the node `p` go, for its children.

@@ -35,7 +35,7 @@ module _ (m m1 m2 : List ℕ) (p : ℕ) (shared : Shared m m1 p) (stays : Stays 
 
   module _ (m3 : List ℕ) (l r : ℕ) (w : List ℕ) (opened : Opened m2 m3 p l r w) where
     parts : (n : ℕ) → Have m (item p (paired n) ∷ []) → Have m3 (item l (lower n) ∷ (item r none ∷ (item p (paired n) ∷ [])))
-    parts n h = opened.have (lower n) none (numbered (n + 1)) (item p (paired n) ∷ []) (twice n h)
+    parts n h = opened.parted.have (lower n) none (numbered (n + 1)) (item p (paired n) ∷ []) (twice n h)
 
     pub pair_upper : (n : ℕ) → Have m (item p (paired n) ∷ []) → get_or w 0 0 ≡ n + 1
     pair_upper n h = ap (λ z. get_or z 0 0) (opened.word (lower n) none (numbered (n + 1)) (item p (paired n) ∷ []) (twice n h))
