@@ -1,5 +1,4 @@
-use Rattle.std.proofs.Common.{◌≡◌, ◌+◌, ◌*◌, length, get_or, take, sym, refl, ap, ◌∙◌, arith, rules}
-use Rattle.std.proofs.lemmas.List.{take_all}
+use Rattle.std.proofs.Common.{◌≡◌, ◌+◌, ◌*◌, length, get_or, take, sym, refl, ◌∙◌, arith, rules}
 use Rattle.cells.specs.Layout.{over, put}
 use Rattle.cells.proofs.Lists.{over_none}
 use Rattle.cells.proofs.Rows.{data_more}
@@ -21,14 +20,4 @@ loop-k-preserved g c =
       written = written ∙ data_more m w p k (omega arith) (omega (arith, c.requires.within));
       long = c.write.ensures.long ∙ c.loop-k.invariant.long;
       touches = omega (arith, c.write.ensures.touches, c.loop-k.invariant.touches);
-    }
-
-pub returns : goal.returns
-returns g c =
-    let m = g.W.Words.row c.args.words.now in
-    let long : length c.args.data ≡ 13 = search rules in
-    record {
-      same = c.loop-k.invariant.written ∙ ap (over m (16 * c.args.p.0 + 3)) (take_all c.loop-k.k c.args.data (omega arith));
-      long = c.loop-k.invariant.long;
-      touches = omega (arith, c.loop-k.invariant.touches);
     }

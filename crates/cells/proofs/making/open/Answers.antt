@@ -6,9 +6,6 @@ use Rattle.cells.proofs.making.open.Goals as goal
 pub load-data-requires : goal.load-data-requires
 load-data-requires g c = record { within = open_within _ _ c.requires }
 
-pub part-requires : goal.part-requires
-part-requires g c = rw c.load-data.ensures.same c.requires
-
 pub returns : goal.returns
 returns g c =
     let row = g.W.Words.row in
