@@ -1,10 +1,6 @@
 use Rattle.std.proofs.Common.{get_or, ap, ◌∙◌}
 use Rattle.cells.proofs.Rows.{at_data}
-use Rattle.cells.proofs.Openings.{read_within}
 use Rattle.cells.proofs.reading.data_word.Goals as goal
-
-pub load_word-requires : goal.load_word-requires
-load_word-requires g c = record { word = c.requires.word; within = read_within _ _ c.requires.node }
 
 pub returns : goal.returns
 returns g c =

@@ -1,11 +1,7 @@
-use Rattle.std.proofs.Common.{sym, subst, arith}
+use Rattle.std.proofs.Common.{sym, subst}
 use Rattle.cells.specs.Have.{Lent}
 use Rattle.cells.proofs.Held.{lend_left}
-use Rattle.cells.proofs.Openings.{read_within}
 use Rattle.cells.proofs.reading.left.Goals as goal
-
-pub word-requires : goal.word-requires
-word-requires g c = record { word = omega arith; within = read_within _ _ c.requires }
 
 pub returns : goal.returns
 returns g c =
