@@ -20,7 +20,7 @@ invariant_of-self c =
     let i = c.args.i in
     let lt = within _ _ _ s.size i c.self.invariant.0 (ap (λ w. w.row) c.self.view_is) c.touch.ensures.row c.requires in
     let few = padded_within (vec_items s.items) (i + 1) s.size c.self.invariant.0 (omega arith) in (
-      omega (arith, length-set (vec_items c.fill_up.new.items) i c.args.x, ap length c.fill_up.ensures.items, few),
+      omega (arith, length-set {A = ℕ}, ap length c.fill_up.ensures.items, few),
       omega (arith, c.self.invariant.1, c.fill_up.ensures.capacity),
       c.self.invariant.2,
     )
