@@ -1,8 +1,7 @@
 pub mod Holds
-pub mod Makings
-pub mod Partings
 pub mod Sides
-pub mod Doubles
+pub mod Partings
+pub mod Makings
 pub mod Rotates
 pub mod Merges
 pub mod Attaches

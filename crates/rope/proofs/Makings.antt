@@ -1,24 +1,28 @@
 -- Making a node of two ropes.
-use Rattle.std.proofs.Common.{◌≡◌, ℕ, ◌+◌, ◌<◌, ◌≤◌, max, List, ◌∷◌, length, get_or, Some, None, Option, refl, ap, subst, arith}
+use Rattle.std.proofs.Common.{◌≡◌, ℕ, ◌+◌, ◌<◌, ◌≤◌, List, ◌∷◌, length, get_or, Some, None, Option, MatchOption, refl, ap, subst, arith}
 use Rattle.cells.specs.declared.cell.Ref.{Ref}
-use Rattle.cells.specs.Tree.{none}
+use Rattle.cells.specs.Tree.{Tree, none}
 use Rattle.cells.specs.Tree.{node as cell_of}
 use Rattle.cells.specs.Have.{Item, item, Have, opt, all_nodes}
-use Rattle.ropes.specs.Rope.{Rope, bytes, height, cells}
+use Rattle.ropes.specs.Rope.{Rope, leaf, bytes, height, cells}
 use Rattle.ropes.specs.Rope.{node as node_of}
-use Rattle.cells.specs.Steps.{Making, Released}
+use Rattle.cells.specs.Steps.{Full, Making, Made, GaveUp, Holding, Released}
 use Rattle.cells.proofs.Held.{sound_some}
 use Rattle.ropes.specs.Layout.{sums_of, leaf_data, node_data}
 use Rattle.ropes.proofs.Cuts.{size_bytes}
 use Rattle.ropes.proofs.Depths.{height_low}
 use Rattle.ropes.proofs.Sums.{sum_small}
 use Rattle.rope_cells.specs.Coded.{code}
-use Rattle.rope_cells.specs.Packed.{Addable, NodeData}
+use Rattle.rope_cells.specs.Packed.{Addable}
 use Rattle.rope_cells.specs.Lending.{LendsSome, SummaryIs}
-use Rattle.rope.specs.Building.{Two, Joins, After, Fit, Placed, Couple, coupling, Couples, Free, Leafed, giving_up}
+use Rattle.rope.specs.declared.sided.Side.{Side}
+use Rattle.rope.specs.declared.sided.Side.TheVariants.{Left, Right}
+use Rattle.rope.specs.Sided.{on_side, ordered}
+use Rattle.rope.specs.Building.{Two, Joins, Fit, Free, Leafed, giving_up}
+use Rattle.rope.specs.Cutting.{Leaves}
 use Rattle.rope_cells.specs.declared.reading.Summary.{Summary}
 use Rattle.rope_cells.proofs.Codes.{nodes_code}
-use Rattle.rope.proofs.Holds.{swap_have, have_same, lends_some, full_capacity}
+use Rattle.rope.proofs.Holds.{swap_have, have_same, lends_some, full_capacity, after_by}
 
 -- either rope may be read
 module _ (m : List ℕ) (l r : ℕ) (x : Two Fit m l r 0) where
@@ -40,8 +44,15 @@ sums_addable u v a b f p q =
           omega (arith, f.few, sum_small (bytes u) k, sum_small (bytes v) k, size_bytes u, size_bytes v);
     }
 
-pub children_data : (u v : Rope) (a b : Summary) (top : ℕ) (w : List ℕ) → SummaryIs u a → SummaryIs v b → top ≡ max a.height b.height → NodeData (top + 1) a.sums b.sums w → w ≡ node_data u v
-children_data u v a b top w p q is made = made.is u v (omega (arith, p.high, q.high)) p.sums q.sums
+-- from m to m' the references l and r went into a new cell, or were let go
+pub record Placed (m m' : List ℕ) (l r : ℕ) (w : List ℕ) (d : Option Ref) (before after : ℕ) : Type 0 where
+  pub have : (u v : Tree) (rest : List Item) → Have m (item l u ∷ (item r v ∷ rest)) → Have m' (opt d (cell_of u v w) rest)
+  pub full : d ≡ None → Full m
+  pub cost : after ≤ before + 31 + giving_up d
+
+pub placed : {m m' : List ℕ} {l r : ℕ} {w : List ℕ} {n n' : ℕ} (d : Option Ref) → MatchOption d (GaveUp m m' l r) (λ p. Made m m' p.0 l r w) → MatchOption d (n' ≤ n + 41) (λ _. n' ≤ n + 31) → Placed m m' l r w d n n'
+placed None gone cost = record { have = gone.dropped.have; full = λ _. gone.full; cost = omega arith }
+placed (Some p) made cost = record { have = made.have; full = λ e. absurd cc; cost = omega arith }
 
 -- data that were read, and a cell with them
 pub node_placed : (m m1 m' : List ℕ) (l r : ℕ) (w : List ℕ) (d : Option Ref) (n n1 n' : ℕ) → m1 ≡ m → ((x : Two Fit m l r 0) → w ≡ node_data x.u x.v) → n1 ≤ n + 6
@@ -65,38 +76,15 @@ two_swap F G m l r room turn x =
 pub fit_swap : (u v : Rope) → Fit u v → Fit v u
 fit_swap u v f = record { left = f.right; right = f.left; some_left = f.some_right; some_right = f.some_left; few = omega (arith, f.few) }
 
-pub after_most : (m m' : List ℕ) (d : Option Ref) (t : Rope) (rest : List Item) (most most' n limit limit' : ℕ) → most ≤ most' → limit ≤ limit' → After m m' d t rest most n limit → After m m' d t rest most' n limit'
-after_most m m' d t rest most most' n limit limit' le low a = record { have = a.have; full = λ e. omega (arith, a.full e); cost = omega (arith, a.cost) }
+-- what was done with two in their order was done on a side
+pub two_ordered : {F : Rope → Rope → Type 0} {m : List ℕ} {room : ℕ} (s : Side) (a b : Ref) → ((u v : Rope) → F u v → F v u) → Two F m a.0 b.0 room → Two F m (ordered s a b).0.0 (ordered s a b).1.0 room
+two_ordered Right a b turn x = x
+two_ordered Left a b turn x = two_swap _ _ _ _ _ _ turn x
 
-pub node_left : (m m' : List ℕ) (l r : ℕ) (d : Option Ref) (n n' : ℕ) → Joins Fit node_of (λ _ _. 37) 0 m m' r l 0 d n n' → Joins Fit (λ a b. node_of b a) (λ _ _. 37) 0 m m' l r 0 d n n'
-node_left m m' l r d n n' j =
-    record {
-      runs = λ x.
-          after_most m m' d (node_of x.v x.u) x.rest _ _ n' _ _ (omega arith) (omega arith) (j.runs (two_swap Fit Fit m l r 0 fit_swap x));
-    }
-
-pub coupling_few : (l r : Option Ref) → coupling l r + (giving_up l + giving_up r) ≤ 37
-coupling_few None None = omega arith
-coupling_few None (Some q) = omega arith
-coupling_few (Some p) None = omega arith
-coupling_few (Some p) (Some q) = omega arith
-
--- both are there
-abbrev pub couple_two : (m : List ℕ) (a b : Ref) → Couple m (Some a) (Some b) → Two Fit m a.0 b.0 0
-couple_two m a b x = record { u = x.u; v = x.v; rest = x.rest; fit = x.fit; have = x.have; few = omega (arith, x.few) }
-
-pub couples_both : (f : Rope → Rope → Rope) (m m' : List ℕ) (a b : Ref) (d : Option Ref) (n n' : ℕ) → Joins Fit f (λ _ _. 37) 0 m m' a.0 b.0 0 d n n' → Couples f m m' (Some a) (Some b) d n n'
-couples_both f m m' a b d n n' j =
-    record { runs = λ x. after_most m m' d (f x.u x.v) x.rest _ _ n' _ _ (omega (arith, x.fits)) (omega arith) (j.runs (couple_two m a b x)) }
-
--- one of them is not
-pub couples_left : (f : Rope → Rope → Rope) (m m' : List ℕ) (a : Ref) (n n' : ℕ) → Released m m' a.0 → n' ≤ n + 5 → Couples f m m' (Some a) None None n n'
-couples_left f m m' a n n' gone le =
-    record { runs = λ x. record { have = gone.have (code x.u) x.rest x.have; full = λ _. x.no_right refl; cost = omega arith } }
-
-pub couples_right : (f : Rope → Rope → Rope) (m m' : List ℕ) (b : Ref) (n n' : ℕ) → Released m m' b.0 → n' ≤ n + 5 → Couples f m m' None (Some b) None n n'
-couples_right f m m' b n n' gone le =
-    record { runs = λ x. record { have = gone.have (code x.v) x.rest x.have; full = λ _. x.no_left refl; cost = omega arith } }
+pub joins_on : {F : Rope → Rope → Type 0} {f : Rope → Rope → Rope} {m m' : List ℕ} {d : Option Ref} {price more room n n' : ℕ} (s : Side) (a b : Ref) → ((u v : Rope) → F u v → F v u)
+    → Joins F f (λ _ _. price) more m m' (ordered s a b).0.0 (ordered s a b).1.0 room d n n' → Joins F (on_side s f) (λ _ _. price) more m m' a.0 b.0 room d n n'
+joins_on Right a b turn j = j
+joins_on Left a b turn j = record { runs = λ x. after_by (j.runs (two_swap _ _ _ _ _ _ turn x)) refl refl (omega arith) (omega arith) }
 
 -- a leaf has no children
 pub leaf_making : (m : List ℕ) → Free m 0 → Making m 0 0
@@ -114,6 +102,38 @@ leaf_placed m m' b w d n n' is placed =
             cost = omega (arith, placed.cost);
           };
     }
+
+-- two leaves
+abbrev pub free_less : {m : List ℕ} {room : ℕ} (less : ℕ) → less ≤ room → Free m room → Free m less
+free_less less le x = record { rest = x.rest; have = x.have; few = omega (arith, x.few) }
+
+pub leaves_none : {m m1 f g : List ℕ} {n n1 : ℕ} → Leafed m m1 f None n n1 → Leaves m m1 f g None n n1
+leaves_none first =
+    record { runs = λ x. let r = first.runs (free_less 0 (omega arith) x) in record { have = r.have; full = λ _. omega (arith, r.full refl); cost = omega (arith, r.cost) } }
+
+-- the first was made
+module _ {m m1 f : List ℕ} {p : Ref} {n n1 : ℕ} (first : Leafed m m1 f (Some p) n n1) where
+  abbrev pub leaf_second : Free m 1 → Free m1 0
+  leaf_second x = record { rest = item p.0 (code (leaf f)) ∷ x.rest; have = (first.runs (free_less 0 (omega arith) x)).have; few = omega (arith, x.few) }
+
+  pub leaf_holding : {m2 g : List ℕ} {n2 : ℕ} → Leafed m1 m2 g None n1 n2 → Free m 1 → Holding m2 p.0
+  leaf_holding second x = record { tree = code (leaf f); rest = x.rest; have = (second.runs (leaf_second x)).have }
+
+  pub leaves_one : {m2 m3 g : List ℕ} {n2 n3 : ℕ} → Leafed m1 m2 g None n1 n2 → Released m2 m3 p.0 → n3 ≤ n2 + 5 → length m1 ≡ length m → Leaves m m3 f g None n n3
+  leaves_one second gone drops long =
+      record {
+        runs = λ x.
+            let r = second.runs (leaf_second x) in
+            record { have = gone.have _ _ r.have; full = λ _. omega (arith, r.full refl); cost = omega (arith, r.cost, (first.runs (free_less 0 (omega arith) x)).cost) };
+      }
+
+  pub leaves_both : {m2 g : List ℕ} {q : Ref} {n2 : ℕ} → Leafed m1 m2 g (Some q) n1 n2 → Leaves m m2 f g (Some (record { front = p; back = q })) n n2
+  leaves_both {m2 = m2} second =
+      record {
+        runs = λ x.
+            let r = second.runs (leaf_second x) in
+            record { have = swap_have m2 _ _ _ r.have; full = λ e. absurd cc; cost = omega (arith, r.cost, (first.runs (free_less 0 (omega arith) x)).cost) };
+      }
 
 pub some_none : (p : Ref) → Some p ≡ None → ⊥
 some_none p e = let z : ◌≡◌ {A = ℕ} 0 1 = cc in omega arith

@@ -1,243 +1,238 @@
 -- The steps of a rotation.
-use Rattle.std.proofs.Common.{◌≡◌, ℕ, ◌+◌, ◌*◌, ◌<◌, ◌≤◌, List, ◌∷◌, length, Some, Option, sym, ap, subst, arith}
+use Rattle.std.proofs.Common.{◌≡◌, ℕ, ◌+◌, ◌<◌, ◌≤◌, List, ◌∷◌, length, Some, None, Option, refl, ap, ◌∙◌, arith}
 use Rattle.cells.specs.declared.cell.Ref.{Ref}
-use Rattle.cells.specs.Have.{Item, item, Have, opt, all_nodes}
-use Rattle.cells.specs.Steps.{Opening}
-use Rattle.ropes.specs.Rope.{Rope, height, cells}
+use Rattle.cells.specs.Have.{item, Have, all_nodes}
+use Rattle.cells.specs.Steps.{Opening, Making, Dropped, Holding, Released}
+use Rattle.ropes.specs.Rope.{Rope, size, height, cells, Inner}
 use Rattle.ropes.proofs.Balance.{inner_some}
 use Rattle.ropes.proofs.Joins.{inner_whole}
 use Rattle.rope.specs.declared.sided.Side.{Side}
 use Rattle.rope_cells.specs.Coded.{code}
 use Rattle.rope_cells.specs.Lending.{LendsSome, ShapeIs}
 use Rattle.rope_cells.specs.declared.reading.Shape.{Shape}
-use Rattle.rope.specs.Sided.{node_on, rotate_on, rotate_parts, double_on, balance_on, rotations_on}
-use Rattle.rope.specs.Building.{Two, Joins, Fit, Couple, Couples, Halved, Peak, Tilted, Leaning, Near, Three, Joins3}
+use Rattle.rope.specs.Sided.{node_on, rotate_on, double_on}
+use Rattle.rope.specs.Building.{After, Two, Joins, Fit, Halved, Peak, Doubles, Leaning, Near}
 use Rattle.rope_cells.proofs.Codes.{nodes_code}
-use Rattle.rope.proofs.Holds.{swap_have, third_have, have_same, lends_some, opening_on}
-use Rattle.rope.proofs.Makings.{coupling_few, some_none}
-use Rattle.rope.proofs.Doubles.{inner_fit}
-use Rattle.rope.proofs.Sides.{View, view, Level, inner_level, level_inner, height_on, size_on, cells_on, rotate_single, rotate_twice, balance_rotated, balance_node, rotations_on_one}
+use Rattle.rope.proofs.Holds.{swap_have, third_have, back_have, lends_some, after_by, after_release}
+use Rattle.rope.proofs.Partings.{view_opening, view_halves}
+use Rattle.rope.proofs.Sides.{View, view, Level, level_inner, cells_on, size_on, rotate_single, rotate_twice, double_node}
 
--- a part and the children of another
-module _ (m : List ℕ) (a b : ℕ) (c : Ref) where
-  abbrev pub second_some : Three Tilted m a b c.0 8 → LendsSome m b
-  second_some x = lends_some m b x.v _ (inner_whole x.v x.fit.second) (omega (arith, x.fit.few)) (inner_some x.v x.fit.second) (swap_have m _ _ _ x.have)
+-- parts that may become the children of a node
+pub inner_fit : (u v : Rope) → Inner u → Inner v → size u + size v < 536870912 → Fit u v
+inner_fit u v iu iv few = record { left = inner_whole u iu; right = inner_whole v iv; some_left = inner_some u iu; some_right = inner_some v iv; few = few }
 
-  abbrev pub third_some : Three Tilted m a b c.0 8 → LendsSome m c.0
-  third_some x = lends_some m c.0 x.w _ (inner_whole x.w x.fit.third) (omega (arith, x.fit.few)) (inner_some x.w x.fit.third) (third_have m _ _ _ _ x.have)
+-- three parts, of which the second is taken in two
+module _ (side : Side) {m : List ℕ} {a b c : ℕ} (x : Peak m a b c) where
+  abbrev pub peak_view : View side x.v
+  peak_view = view side x.v (omega (arith, x.high, inner_some x.w x.third))
 
-  module _ (side : Side) (y z : Shape) (is_y : (x : LendsSome m b) → ShapeIs x.lends.rope y) (is_z : (x : LendsSome m c.0) → ShapeIs x.lends.rope z) (m1 : List ℕ) (same : m1 ≡ m) where
-    pub heights : (x : Three Tilted m a b c.0 8) → (y.height ≡ height x.v) × (z.height ≡ height x.w)
-    heights x = ((is_y (second_some x)).high, (is_z (third_some x)).high)
+  pub peak_opening : Opening m b
+  peak_opening = view_opening side peak_view (swap_have m _ _ _ x.have) (omega (arith, x.few))
 
-    -- the third is not lower: one rotation
-    module _ (le : y.height ≤ z.height) where
-      pub single_levels : (x : Three Tilted m a b c.0 8) → Level x.u x.v × Level (node_on side x.u x.v) x.w
-      single_levels x =
-          let k = x.fit in
-          let h : height x.v ≤ height x.w = omega (arith, (heights x).0, (heights x).1) in
-          let l : Level x.u x.v = record { first = k.first; second = k.second; low = omega (arith, k.tall, k.high); high = omega (arith, k.tall) } in
-          let on = height_on side x.u x.v in
-          (l, record { first = level_inner side x.u x.v l; second = k.third; low = omega (arith, k.tall); high = omega (arith, k.tall) })
+  -- the children of the two nodes
+  pub peak_levels : Level x.u peak_view.first × Level peak_view.second x.w
+  peak_levels =
+      let o = peak_view in
+      let l = o.level (inner_whole x.v x.second) in (
+        record { first = x.first; second = l.first; low = omega (arith, x.high, x.level, o.high, l.low, l.high); high = omega (arith, x.high, x.level, o.high) },
+        record { first = l.second; second = x.third; low = omega (arith, x.high, o.high); high = omega (arith, x.high, o.high, l.low, l.high) },
+      )
 
-      abbrev pub single_two : Three Tilted m a b c.0 8 → Two Fit m1 a b 0
-      single_two x =
-          record {
-            u = x.u;
-            v = x.v;
-            rest = item c.0 (code x.w) ∷ x.rest;
-            fit = inner_fit x.u x.v x.fit.first x.fit.second (omega (arith, x.fit.few));
-            have = have_same m m1 _ same x.have;
-            few = omega (arith, x.few);
-          }
-
-      module _ (m2 : List ℕ) (d : Option Ref) (n1 n2 : ℕ) (one : Joins Fit (node_on side) (λ _ _. 37) 0 m1 m2 a b 0 d n1 n2) (long : length m2 ≡ length m1) where
-        abbrev pub single_couple : Three Tilted m a b c.0 8 → Couple m2 d (Some c)
-        single_couple x =
-            let l = single_levels x in
-            record {
-              u = node_on side x.u x.v;
-              v = x.w;
-              rest = x.rest;
-              most = cells x.u + cells x.v + cells x.w + all_nodes x.rest + 1;
-              fit = inner_fit (node_on side x.u x.v) x.w l.1.first l.1.second (omega (arith, x.fit.few, size_on side x.u x.v));
-              have = (one.runs (single_two x)).have;
-              no_left = λ e. omega (arith, (one.runs (single_two x)).full e, nodes_code x.w);
-              no_right = λ e. absurd (some_none c e);
-              fits = omega (arith, cells_on side x.u x.v);
-              few = omega (arith, x.few);
-            }
-
-        pub single : (m3 : List ℕ) (f : Option Ref) (n n3 : ℕ) → Couples (node_on side) m2 m3 d (Some c) f n2 n3 → n1 ≤ n + 2 → Joins3 Tilted (rotate_parts side) 124 m m3 a b c.0 8 f n n3
-        single m3 f n n3 last cost =
-            record {
-              runs = λ x.
-                  let r = last.runs (single_couple x) in
-                  let h : height x.v ≤ height x.w = omega (arith, (heights x).0, (heights x).1) in
-                  record {
-                    have = subst (λ q. Have m3 (opt f (code q) x.rest)) (sym (rotate_single side x.u x.v x.w h)) r.have;
-                    full = λ e. omega (arith, r.full e, ap length same);
-                    cost = omega (arith, r.cost, (one.runs (single_two x)).cost, coupling_few d (Some c));
-                  };
-            }
-
-    -- the third is lower: two
-    module _ (more : z.height < y.height) where
-      abbrev pub double_three : Three Tilted m a b c.0 8 → Three Peak m1 a b c.0 8
-      double_three x =
-          let k = x.fit in
-          let h : height x.w < height x.v = omega (arith, (heights x).0, (heights x).1) in
-          record {
-            u = x.u;
-            v = x.v;
-            w = x.w;
-            rest = x.rest;
-            fit = record { first = k.first; second = k.second; third = k.third; high = omega (arith, k.low); level = omega (arith, k.low, k.tall); few = k.few };
-            have = have_same m m1 _ same x.have;
-            few = x.few;
-          }
-
-      pub twice : (m2 : List ℕ) (f : Option Ref) (n n1 n2 : ℕ) → Joins3 Peak (double_on side) 122 m1 m2 a b c.0 8 f n1 n2 → n1 ≤ n + 2 → Joins3 Tilted (rotate_parts side) 124 m m2 a b c.0 8 f n n2
-      twice m2 f n n1 n2 last cost =
-          record {
-            runs = λ x.
-                let r = last.runs (double_three x) in
-                let h : height x.w < height x.v = omega (arith, (heights x).0, (heights x).1) in
-                record {
-                  have = subst (λ q. Have m2 (opt f (code q) x.rest)) (sym (rotate_twice side x.u x.v x.w h)) r.have;
-                  full = λ e. omega (arith, r.full e, ap length same);
-                  cost = omega (arith, r.cost);
-                };
-          }
-
--- a part and another that is too high beside it
-pub record Leans (side : Side) (m : List ℕ) (a b : ℕ) : Type 0 where
-  pub u : Rope
-  pub p : Rope
-  pub q : Rope
-  pub rest : List Item
-  pub fit : Leaning u (node_on side p q)
-  pub have : Have m (item a (code u) ∷ (item b (code (node_on side p q)) ∷ rest))
-  pub few : length rest + 16 < 2147483640
-
-pub lean_view : (side : Side) (u v : Rope) → Leaning u v → View side v
-lean_view side u v k = view side v (omega (arith, k.high))
-
-abbrev pub leans : (side : Side) (m : List ℕ) (a b : ℕ) → Two Leaning m a b 16 → Leans side m a b
-leans side m a b x =
-    let o = lean_view side x.u x.v x.fit in
-    record {
-      u = x.u;
-      p = o.first;
-      q = o.second;
-      rest = x.rest;
-      fit = subst (Leaning x.u) o.is x.fit;
-      have = subst (λ z. Have m (item a (code x.u) ∷ (item b (code z) ∷ x.rest))) o.is x.have;
-      few = x.few;
-    }
-
-module _ (side : Side) (m : List ℕ) (a b : ℕ) where
-  pub lean_opening : Leans side m a b → Opening m b
-  lean_opening x = opening_on side m b x.p x.q _ (swap_have m _ _ _ x.have) (omega (arith, x.few))
-
-  module _ (m1 : List ℕ) (p q : ℕ) (cut : Halved side m m1 b p q) (long : length m1 ≡ length m) where
-    abbrev pub lean_three : Leans side m a b → Three Tilted m1 a p q 8
-    lean_three x =
-        let k = x.fit in
-        let l = inner_level side x.p x.q k.second in
+  module _ {m1 : List ℕ} {p q : ℕ} (cut : Halved side m m1 b p q) where
+    abbrev pub double_first : Two Fit m1 a p 0
+    double_first =
+        let o = peak_view in
         record {
           u = x.u;
-          v = x.p;
-          w = x.q;
-          rest = x.rest;
-          fit = record {
-            first = k.first;
-            second = l.first;
-            third = l.second;
-            low = l.low;
-            high = l.high;
-            tall = omega (arith, k.high, height_on side x.p x.q);
-            few = omega (arith, k.few, size_on side x.p x.q);
-          };
-          have = third_have m1 _ _ _ _ (cut.have x.p x.q _ (swap_have m _ _ _ x.have));
+          v = o.first;
+          rest = item q (code o.second) ∷ (item c (code x.w) ∷ x.rest);
+          fit = inner_fit x.u o.first x.first peak_levels.0.second (omega (arith, x.small, o.long));
+          have = third_have m1 _ _ _ _ (view_halves cut o (swap_have m _ _ _ x.have));
           few = omega (arith, x.few);
         }
 
-    pub rotated : (m2 : List ℕ) (f : Option Ref) (n n1 n2 : ℕ) → Joins3 Tilted (rotate_parts side) 124 m1 m2 a p q 8 f n1 n2 → n1 ≤ n + 11 → Joins Leaning (rotate_on side) (λ _ _. 135) 1 m m2 a b 16 f n n2
-    rotated m2 f n n1 n2 last cost =
-        record {
-          runs = λ x.
-              let y = leans side m a b x in
-              let is = (lean_view side x.u x.v x.fit).is in
-              let r = last.runs (lean_three y) in
-              record {
-                have = subst (λ z. Have m2 (opt f (code (rotate_on side x.u z)) x.rest)) (sym is) r.have;
-                full = λ e. omega (arith, r.full e, ap cells is, cells_on side y.p y.q);
-                cost = omega (arith, r.cost);
-              };
-        }
+    module _ {m2 : List ℕ} {n1 n2 : ℕ} where
+      -- no room for the first node
+      module _ (one : Joins Fit (node_on side) (λ _ _. 37) 0 m1 m2 a p 0 None n1 n2) where
+        pub double_making : Making m2 q c
+        double_making = record { left = code peak_view.second; right = code x.w; rest = x.rest; have = (one.runs double_first).have }
 
--- two parts of which the second may be too high
-module _ (m : List ℕ) (a b : ℕ) where
-  abbrev pub first_near : Two Near m a b 16 → LendsSome m a
-  first_near x = lends_some m a x.u _ (inner_whole x.u x.fit.first) (omega (arith, x.fit.few)) (inner_some x.u x.fit.first) x.have
+        pub double_dropped : {m3 : List ℕ} {n3 : ℕ} (n : ℕ) → Dropped m2 m3 q c → n3 ≤ n2 + 10 → length m1 ≡ length m → n1 ≤ n + 11 → After m m3 None (double_on side x.u x.v x.w) x.rest (cells x.u + cells x.v + cells x.w + all_nodes x.rest + 1) n3 (n + 122)
+        double_dropped n gone drops long1 steps =
+            let o = peak_view in
+            let r = one.runs double_first in
+            record { have = gone.have _ _ _ r.have; full = λ _. omega (arith, r.full refl, nodes_code o.second, nodes_code x.w, o.count); cost = omega (arith, r.cost) }
 
-  abbrev pub second_near : Two Near m a b 16 → LendsSome m b
-  second_near x = lends_some m b x.v _ (inner_whole x.v x.fit.second) (omega (arith, x.fit.few)) (inner_some x.v x.fit.second) (swap_have m _ _ _ x.have)
+      module _ {d : Ref} (one : Joins Fit (node_on side) (λ _ _. 37) 0 m1 m2 a p 0 (Some d) n1 n2) where
+        abbrev pub double_second : Two Fit m2 q c 0
+        double_second =
+            let o = peak_view in
+            record {
+              u = o.second;
+              v = x.w;
+              rest = item d.0 (code (node_on side x.u o.first)) ∷ x.rest;
+              fit = inner_fit o.second x.w peak_levels.1.first x.third (omega (arith, x.small, o.long));
+              have = back_have m2 _ _ _ _ (one.runs double_first).have;
+              few = omega (arith, x.few);
+            }
 
-  module _ (side : Side) (y z : Shape) (is_y : (x : LendsSome m a) → ShapeIs x.lends.rope y) (is_z : (x : LendsSome m b) → ShapeIs x.lends.rope z) (m1 : List ℕ) (same : m1 ≡ m) where
-    pub near_heights : (x : Two Near m a b 16) → (y.height ≡ height x.u) × (z.height ≡ height x.v)
-    near_heights x = ((is_y (first_near x)).high, (is_z (second_near x)).high)
+        module _ {m3 : List ℕ} {n3 : ℕ} where
+          -- no room for the second
+          module _ (two : Joins Fit (node_on side) (λ _ _. 37) 0 m2 m3 q c 0 None n2 n3) where
+            pub double_holding : Holding m3 d.0
+            double_holding = record { tree = code (node_on side x.u peak_view.first); rest = x.rest; have = (two.runs double_second).have }
 
-    module _ (high : y.height + 1 < z.height) where
-      abbrev pub near_leaning : Two Near m a b 16 → Two Leaning m1 a b 16
-      near_leaning x =
-          let k = x.fit in
-          record {
-            u = x.u;
-            v = x.v;
-            rest = x.rest;
-            fit = record { first = k.first; second = k.second; high = omega (arith, k.high, (near_heights x).0, (near_heights x).1); few = k.few };
-            have = have_same m m1 _ same x.have;
-            few = x.few;
-          }
+            pub double_released : {m4 : List ℕ} {n4 : ℕ} (n : ℕ) → Released m3 m4 d.0 → n4 ≤ n3 + 5 → length m1 ≡ length m → n1 ≤ n + 11 → length m2 ≡ length m1 → After m m4 None (double_on side x.u x.v x.w) x.rest (cells x.u + cells x.v + cells x.w + all_nodes x.rest + 1) n4 (n + 122)
+            double_released n gone drops long1 steps long2 =
+                let o = peak_view in
+                after_release (two.runs double_second) gone drops (omega arith) (omega (arith, nodes_code (node_on side x.u o.first), cells_on side x.u o.first, o.count)) (omega (arith, (one.runs double_first).cost))
 
-      pub balanced_rotate : (m2 : List ℕ) (f : Option Ref) (n n1 n2 : ℕ) → Joins Leaning (rotate_on side) (λ _ _. 135) 1 m1 m2 a b 16 f n1 n2 → n1 ≤ n + 2
-          → Joins Near (balance_on side) (λ u v. 39 + 98 * rotations_on side u v) 1 m m2 a b 16 f n n2
-      balanced_rotate m2 f n n1 n2 last cost =
-          record {
-            runs = λ x.
-                let r = last.runs (near_leaning x) in
-                let h : height x.u + 1 < height x.v = omega (arith, (near_heights x).0, (near_heights x).1) in
+          -- two nodes
+          module _ {e : Ref} (two : Joins Fit (node_on side) (λ _ _. 37) 0 m2 m3 q c 0 (Some e) n2 n3) where
+            abbrev pub double_last : Two Fit m3 d.0 e.0 0
+            double_last =
+                let o = peak_view in
                 record {
-                  have = subst (λ q. Have m2 (opt f (code q) x.rest)) (sym (balance_rotated side x.u x.v h)) r.have;
-                  full = λ e. omega (arith, r.full e, ap length same);
-                  cost = omega (arith, r.cost, rotations_on_one side x.u x.v h);
-                };
-          }
+                  u = node_on side x.u o.first;
+                  v = node_on side o.second x.w;
+                  rest = x.rest;
+                  fit = inner_fit (node_on side x.u o.first) (node_on side o.second x.w) (level_inner side _ _ peak_levels.0) (level_inner side _ _ peak_levels.1)
+                      (omega (arith, x.small, o.long, size_on side x.u o.first, size_on side o.second x.w));
+                  have = swap_have m3 _ _ _ (two.runs double_second).have;
+                  few = omega (arith, x.few);
+                }
 
-    module _ (low : z.height ≤ y.height + 1) where
-      abbrev pub near_fit : Two Near m a b 16 → Two Fit m1 a b 0
-      near_fit x =
+            pub doubled : {m4 : List ℕ} {f : Option Ref} {n4 : ℕ} (n : ℕ) → Joins Fit (node_on side) (λ _ _. 37) 0 m3 m4 d.0 e.0 0 f n3 n4 → length m1 ≡ length m → n1 ≤ n + 11 → length m2 ≡ length m1 → length m3 ≡ length m2
+                → After m m4 f (double_on side x.u x.v x.w) x.rest (cells x.u + cells x.v + cells x.w + all_nodes x.rest + 1) n4 (n + 122)
+            doubled n last long1 steps long2 long3 =
+                let o = peak_view in
+                after_by (last.runs double_last) (omega arith) (ap (λ z. double_on side x.u z x.w) o.is ∙ double_node side x.u o.first o.second x.w)
+                (omega (arith, cells_on side x.u o.first, cells_on side o.second x.w, o.count)) (omega (arith, (one.runs double_first).cost, (two.runs double_second).cost))
+
+-- a part and another that is too high beside it, which is taken in two
+module _ (side : Side) {m : List ℕ} {a b : ℕ} (x : Two Leaning m a b 16) where
+  abbrev pub lean_view : View side x.v
+  lean_view = view side x.v (omega (arith, x.fit.high))
+
+  pub lean_opening : Opening m b
+  lean_opening = view_opening side lean_view (swap_have m _ _ _ x.have) (omega (arith, x.few))
+
+  pub lean_level : Level lean_view.first lean_view.second
+  lean_level = lean_view.level (inner_whole x.v x.fit.second)
+
+  module _ {m1 : List ℕ} {p q : ℕ} (cut : Halved side m m1 b p q) where
+    pub lean_have : Have m1 (item a (code x.u) ∷ (item p (code lean_view.first) ∷ (item q (code lean_view.second) ∷ x.rest)))
+    lean_have = third_have m1 _ _ _ _ (view_halves cut lean_view (swap_have m _ _ _ x.have))
+
+    abbrev pub lean_first : LendsSome m1 p
+    lean_first =
+        let l = lean_level in
+        lends_some m1 p lean_view.first _ (inner_whole lean_view.first l.first) (omega (arith, x.fit.few, lean_view.long)) (inner_some lean_view.first l.first) (swap_have m1 _ _ _ lean_have)
+
+    abbrev pub lean_second : LendsSome m1 q
+    lean_second =
+        let l = lean_level in
+        lends_some m1 q lean_view.second _ (inner_whole lean_view.second l.second) (omega (arith, x.fit.few, lean_view.long)) (inner_some lean_view.second l.second) (third_have m1 _ _ _ _ lean_have)
+
+    pub lean_high : {y z : Shape} → ((v : LendsSome m1 p) → ShapeIs v.lends.rope y) → ((v : LendsSome m1 q) → ShapeIs v.lends.rope z) → z.height < y.height → height lean_view.second < height lean_view.first
+    lean_high is_y is_z more = omega (arith, (is_y lean_first).high, (is_z lean_second).high)
+
+    pub lean_low : {y z : Shape} → ((v : LendsSome m1 p) → ShapeIs v.lends.rope y) → ((v : LendsSome m1 q) → ShapeIs v.lends.rope z) → y.height ≤ z.height → height lean_view.first ≤ height lean_view.second
+    lean_low is_y is_z le = omega (arith, (is_y lean_first).high, (is_z lean_second).high)
+
+    -- the first of the two is higher
+    module _ {y z : Shape} (is_y : (v : LendsSome m1 p) → ShapeIs v.lends.rope y) (is_z : (v : LendsSome m1 q) → ShapeIs v.lends.rope z) (more : z.height < y.height) where
+      abbrev pub lean_peak : Peak m1 a p q
+      lean_peak =
+          let high = lean_high is_y is_z more in
+          let o = lean_view in
+          let l = lean_level in
           record {
             u = x.u;
-            v = x.v;
+            v = o.first;
+            w = o.second;
             rest = x.rest;
-            fit = inner_fit x.u x.v x.fit.first x.fit.second x.fit.few;
-            have = have_same m m1 _ same x.have;
+            first = x.fit.first;
+            second = l.first;
+            third = l.second;
+            high = omega (arith, l.low);
+            level = omega (arith, x.fit.high, o.high, l.low);
+            small = omega (arith, x.fit.few, o.long);
+            have = lean_have;
             few = omega (arith, x.few);
           }
 
-      pub balanced_node : (m2 : List ℕ) (f : Option Ref) (n n1 n2 : ℕ) → Joins Fit (node_on side) (λ _ _. 37) 0 m1 m2 a b 0 f n1 n2 → n1 ≤ n + 2
-          → Joins Near (balance_on side) (λ u v. 39 + 98 * rotations_on side u v) 1 m m2 a b 16 f n n2
-      balanced_node m2 f n n1 n2 last cost =
+      pub lean_doubled : {m2 : List ℕ} {d : Option Ref} {n1 n2 : ℕ} (n : ℕ) → Doubles side m1 m2 a p q d n1 n2 → length m1 ≡ length m → n1 ≤ n + 13
+          → After m m2 d (rotate_on side x.u x.v) x.rest (cells x.u + cells x.v + all_nodes x.rest + 1) n2 (n + 135)
+      lean_doubled n last long steps =
+          let high = lean_high is_y is_z more in
+          let o = lean_view in
+          after_by (last.runs lean_peak) long (ap (rotate_on side x.u) o.is ∙ rotate_twice side x.u o.first o.second high) (omega (arith, o.count)) (omega arith)
+
+    -- it is not
+    module _ {y z : Shape} (is_y : (v : LendsSome m1 p) → ShapeIs v.lends.rope y) (is_z : (v : LendsSome m1 q) → ShapeIs v.lends.rope z) (le : y.height ≤ z.height) where
+      abbrev pub lean_single : Two Fit m1 a p 0
+      lean_single =
+          let o = lean_view in
           record {
-            runs = λ x.
-                let r = last.runs (near_fit x) in
-                let h : height x.v ≤ height x.u + 1 = omega (arith, (near_heights x).0, (near_heights x).1) in
-                record {
-                  have = subst (λ q. Have m2 (opt f (code q) x.rest)) (sym (balance_node side x.u x.v x.fit.low h)) r.have;
-                  full = λ e. omega (arith, r.full e, ap length same);
-                  cost = omega (arith, r.cost);
-                };
+            u = x.u;
+            v = o.first;
+            rest = item q (code o.second) ∷ x.rest;
+            fit = inner_fit x.u o.first x.fit.first lean_level.first (omega (arith, x.fit.few, o.long));
+            have = lean_have;
+            few = omega (arith, x.few);
           }
+
+      module _ {m2 : List ℕ} {n1 n2 : ℕ} where
+        module _ (one : Joins Fit (node_on side) (λ _ _. 37) 0 m1 m2 a p 0 None n1 n2) where
+          pub lean_holding : Holding m2 q
+          lean_holding = record { tree = code lean_view.second; rest = x.rest; have = (one.runs lean_single).have }
+
+          pub lean_released : {m3 : List ℕ} {n3 : ℕ} (n : ℕ) → Released m2 m3 q → n3 ≤ n2 + 5 → length m1 ≡ length m → n1 ≤ n + 13 → After m m3 None (rotate_on side x.u x.v) x.rest (cells x.u + cells x.v + all_nodes x.rest + 1) n3 (n + 135)
+          lean_released n gone drops long1 steps = after_release (one.runs lean_single) gone drops long1 (omega (arith, nodes_code lean_view.second, lean_view.count)) (omega arith)
+
+        module _ {d : Ref} (one : Joins Fit (node_on side) (λ _ _. 37) 0 m1 m2 a p 0 (Some d) n1 n2) where
+          abbrev pub lean_last : Two Fit m2 d.0 q 0
+          lean_last =
+              let low = lean_low is_y is_z le in
+              let o = lean_view in
+              let l = lean_level in
+              let inner = level_inner side x.u o.first (record { first = x.fit.first; second = l.first; low = omega (arith, x.fit.high, o.high, l.high); high = omega (arith, x.fit.high, o.high) }) in
+              record {
+                u = node_on side x.u o.first;
+                v = o.second;
+                rest = x.rest;
+                fit = inner_fit (node_on side x.u o.first) o.second inner l.second (omega (arith, x.fit.few, o.long, size_on side x.u o.first));
+                have = (one.runs lean_single).have;
+                few = omega (arith, x.few);
+              }
+
+          pub lean_rotated : {m3 : List ℕ} {f : Option Ref} {n3 : ℕ} (n : ℕ) → Joins Fit (node_on side) (λ _ _. 37) 0 m2 m3 d.0 q 0 f n2 n3 → length m1 ≡ length m → n1 ≤ n + 13 → length m2 ≡ length m1
+              → After m m3 f (rotate_on side x.u x.v) x.rest (cells x.u + cells x.v + all_nodes x.rest + 1) n3 (n + 135)
+          lean_rotated n last long1 steps long2 =
+              let low = lean_low is_y is_z le in
+              let o = lean_view in
+              after_by (last.runs lean_last) (omega arith) (ap (rotate_on side x.u) o.is ∙ rotate_single side x.u o.first o.second low) (omega (arith, cells_on side x.u o.first, o.count))
+              (omega (arith, (one.runs lean_single).cost))
+
+-- two parts of which the second may be too high
+module _ {m : List ℕ} {a b : ℕ} (x : Two Near m a b 16) where
+  abbrev pub near_first : LendsSome m a
+  near_first = lends_some m a x.u _ (inner_whole x.u x.fit.first) (omega (arith, x.fit.few)) (inner_some x.u x.fit.first) x.have
+
+  abbrev pub near_second : LendsSome m b
+  near_second = lends_some m b x.v _ (inner_whole x.v x.fit.second) (omega (arith, x.fit.few)) (inner_some x.v x.fit.second) (swap_have m _ _ _ x.have)
+
+  abbrev pub near_leaning : height x.u + 1 < height x.v → Two Leaning m a b 16
+  near_leaning high =
+      record { u = x.u; v = x.v; rest = x.rest; fit = record { first = x.fit.first; second = x.fit.second; high = omega (arith, x.fit.high); few = x.fit.few }; have = x.have; few = x.few }
+
+  abbrev pub near_fit : Two Fit m a b 0
+  near_fit = record { u = x.u; v = x.v; rest = x.rest; fit = inner_fit x.u x.v x.fit.first x.fit.second x.fit.few; have = x.have; few = omega (arith, x.few) }
+
+  module _ {y z : Shape} (is_y : (v : LendsSome m a) → ShapeIs v.lends.rope y) (is_z : (v : LendsSome m b) → ShapeIs v.lends.rope z) where
+    pub near_high : y.height + 1 < z.height → height x.u + 1 < height x.v
+    near_high more = omega (arith, (is_y near_first).high, (is_z near_second).high)
+
+    pub near_low : z.height ≤ y.height + 1 → height x.v ≤ height x.u + 1
+    near_low le = omega (arith, (is_y near_first).high, (is_z near_second).high)

@@ -33,29 +33,46 @@ pub record Level (a b : Rope) : Type 0 where
   pub low : height a ≤ height b + 1
   pub high : height b ≤ height a + 1
 
-pub inner_level : (s : Side) (a b : Rope) → Inner (node_on s a b) → Level a b
-inner_level Right a b i = record { first = i.0; second = i.1; low = i.2; high = i.3 }
-inner_level Left a b i = record { first = i.1; second = i.0; low = i.3; high = i.2 }
-
 pub level_inner : (s : Side) (a b : Rope) → Level a b → Inner (node_on s a b)
 level_inner Right a b l = (l.first, l.second, l.low, l.high)
 level_inner Left a b l = (l.second, l.first, l.high, l.low)
-
-pub level_whole : (s : Side) (a b : Rope) → Level a b → Whole (node_on s a b)
-level_whole Right a b l = (l.first, l.second, l.low, l.high)
-level_whole Left a b l = (l.second, l.first, l.high, l.low)
 
 -- whatever is higher than a leaf is a node, seen from either side
 pub record View (s : Side) (t : Rope) : Type 0 where
   pub first : Rope
   pub second : Rope
   pub is : t ≡ node_on s first second
+  pub high : height t ≡ max (height first) (height second) + 1
+  pub long : size t ≡ size first + size second
+  pub count : cells t ≡ cells first + cells second + 1
+  pub inner : Whole t → Inner t
+  pub level : Whole t → Level first second
 
 pub view : (s : Side) (t : Rope) → 2 ≤ height t → View s t
 view s empty h = absurd (omega arith)
 view s (leaf b) h = absurd (omega arith)
-view Right (node l r) h = record { first = l; second = r; is = refl }
-view Left (node l r) h = record { first = r; second = l; is = refl }
+view Right (node l r) h =
+    record {
+      first = l;
+      second = r;
+      is = refl;
+      high = refl;
+      long = refl;
+      count = refl;
+      inner = λ w. w;
+      level = λ w. record { first = w.0; second = w.1; low = w.2; high = w.3 };
+    }
+view Left (node l r) h =
+    record {
+      first = r;
+      second = l;
+      is = refl;
+      high = omega arith;
+      long = omega arith;
+      count = omega arith;
+      inner = λ w. w;
+      level = λ w. record { first = w.1; second = w.0; low = w.3; high = w.2 };
+    }
 
 pub double_node : (s : Side) (a x y c : Rope) → double_on s a (node_on s x y) c ≡ node_on s (node_on s a x) (node_on s y c)
 unfolding rotate_double
@@ -87,15 +104,15 @@ unfolding append prepend
 attach_leaf Right b t = refl
 attach_leaf Left b t = refl
 
-pub attach_beside : (s : Side) (a b t : Rope) → fits_beside (height (node_on s a b)) t ≡ true → attach s (node_on s a b) t ≡ node_on s (node_on s a b) t
+pub attach_beside : (s : Side) {h : Rope} (o : View s h) (t : Rope) → fits_beside (height h) t ≡ true → attach s h t ≡ node_on s h t
 unfolding append prepend
-attach_beside Right a b t e = cond-true _ _ _ e
-attach_beside Left a b t e = cond-true _ _ _ e
+attach_beside Right o t e = let e = rw o.is at e in rw o.is (cond-true _ _ _ e)
+attach_beside Left o t e = let e = rw o.is at e in rw o.is (cond-true _ _ _ e)
 
-pub attach_inside : (s : Side) (a b t : Rope) → fits_beside (height (node_on s a b)) t ≡ false → attach s (node_on s a b) t ≡ balance_on s a (attach s b t)
+pub attach_inside : (s : Side) {h : Rope} (o : View s h) (t : Rope) → fits_beside (height h) t ≡ false → attach s h t ≡ balance_on s o.first (attach s o.second t)
 unfolding append prepend
-attach_inside Right a b t e = cond-false _ _ _ e
-attach_inside Left a b t e = cond-false _ _ _ e
+attach_inside Right o t e = let e = rw o.is at e in rw o.is (cond-false _ _ _ e)
+attach_inside Left o t e = let e = rw o.is at e in rw o.is (cond-false _ _ _ e)
 
 pub attach_fits : (s : Side) (t x : Rope) → Inner t → Whole x → 1 ≤ height x → height x ≤ height t → Fits (attach s t x) (height t)
 attach_fits Right t x i w some le = append_inner t x i w some le
@@ -113,14 +130,14 @@ pub rotations_on_none : (s : Side) (a b : Rope) → height a ≤ height b + 1 �
 rotations_on_none Right a b l h = rotations_none a b l h
 rotations_on_none Left a b l h = rotations_none b a h l
 
-pub attach_rotations : (s : Side) (a b x : Rope) → Inner (node_on s a b) → Whole x → 1 ≤ height x → height x ≤ height b → fits_beside (height (node_on s a b)) x ≡ false
-    → rotations_on s a (attach s b x) + (height (balance_on s a (attach s b x)) - height (node_on s a b)) ≤ height (attach s b x) - height b
-attach_rotations Right a b x i w some le e = append_rotations a b x i w some le (not_beside _ x e)
-attach_rotations Left a b x i w some le e = prepend_rotations x b a w i some le (not_beside _ x e)
+pub attach_rotations : (s : Side) {h : Rope} (o : View s h) (x : Rope) → Inner h → Whole x → 1 ≤ height x → height x ≤ height o.second → fits_beside (height h) x ≡ false
+    → rotations_on s o.first (attach s o.second x) + (height (balance_on s o.first (attach s o.second x)) - height h) ≤ height (attach s o.second x) - height o.second
+attach_rotations Right o x i w some le e = rw o.is (append_rotations o.first o.second x (rw o.is at i) w some le (not_beside _ x (rw o.is at e)))
+attach_rotations Left o x i w some le e = rw o.is (prepend_rotations x o.second o.first w (rw o.is at i) some le (not_beside _ x (rw o.is at e)))
 
-pub attach_steps : (s : Side) (a b x : Rope) → Inner (node_on s a b) → fits_beside (height (node_on s a b)) x ≡ false → steps (height b) x + 1 ≤ steps (height (node_on s a b)) x
-attach_steps Right a b x i e = steps_down a b b x i (omega arith) e
-attach_steps Left a b x i e = steps_down b a b x i (omega arith) e
+pub attach_steps : (s : Side) {h : Rope} (o : View s h) (x : Rope) → Inner h → fits_beside (height h) x ≡ false → steps (height o.second) x + 1 ≤ steps (height h) x
+attach_steps Right o x i e = rw o.is (steps_down o.first o.second o.second x (rw o.is at i) (omega arith) (rw o.is at e))
+attach_steps Left o x i e = rw o.is (steps_down o.second o.first o.second x (rw o.is at i) (omega arith) (rw o.is at e))
 
 pub rotations_on_one : (s : Side) (a b : Rope) → height a + 1 < height b → rotations_on s a b ≡ 1
 unfolding rotations

@@ -1,17 +1,14 @@
 -- What building ropes asks, and what it leaves. A call takes references over. Where there is room the new rope is held in their place,
 -- and else nothing is: they are let go.
-use Rattle.std.specs.Prelude.{◌≡◌, ℕ, ◌+◌, ◌-◌, ◌*◌, ◌/◌, ◌<◌, ◌≤◌, min, max, cond, List, ◌∷◌, length, take, drop, Some, None, Option, nat_le}
+use Rattle.std.specs.Prelude.{◌≡◌, ℕ, ◌+◌, ◌-◌, ◌*◌, ◌/◌, ◌<◌, ◌≤◌, min, cond, List, ◌∷◌, length, take, drop, Some, None, Option, nat_le}
 use Rattle.cells.specs.declared.cell.Ref.{Ref}
-use Rattle.cells.specs.Tree.{Tree}
-use Rattle.cells.specs.Tree.{node as cell_of}
 use Rattle.cells.specs.Have.{Item, item, Have, opt, all_nodes}
-use Rattle.cells.specs.Steps.{Full}
 use Rattle.ropes.specs.Rope.{Rope, leaf, leaf_max, size, height, cells, Inner, Whole}
 use Rattle.ropes.specs.Rope.{node as node_of}
 use Rattle.ropes.specs.Costs.{steps, concat_steps}
 use Rattle.rope.specs.declared.sided.Side.{Side}
 use Rattle.rope_cells.specs.Coded.{code}
-use Rattle.rope.specs.Sided.{node_on, attach}
+use Rattle.rope.specs.Sided.{node_on, double_on, attach}
 
 -- how many cells a row of so many words has room for, the header's 8 among them
 abbrev pub capacity : ℕ → ℕ
@@ -49,36 +46,6 @@ pub record Fit (u v : Rope) : Type 0 where
   pub some_right : 1 ≤ height v
   pub few : size u + size v < 536870912
 
--- from m to m' the references l and r went into a new cell, or were let go
-pub record Placed (m m' : List ℕ) (l r : ℕ) (w : List ℕ) (d : Option Ref) (before after : ℕ) : Type 0 where
-  pub have : (u v : Tree) (rest : List Item) → Have m (item l u ∷ (item r v ∷ rest)) → Have m' (opt d (cell_of u v w) rest)
-  pub full : d ≡ None → Full m
-  pub cost : after ≤ before + 31 + giving_up d
-
--- Two ropes that may become the children of a node were made, or either was let go. The row then has no room for more than `most` cells.
-pub record Couple (m : List ℕ) (l r : Option Ref) : Type 0 where
-  pub u : Rope
-  pub v : Rope
-  pub rest : List Item
-  pub most : ℕ
-  pub fit : Fit u v
-  pub have : Have m (opt l (code u) (opt r (code v) rest))
-  pub no_left : l ≡ None → capacity (length m) ≤ 8 + most
-  pub no_right : r ≡ None → capacity (length m) ≤ 8 + most
-  pub fits : cells u + cells v + all_nodes rest ≤ most
-  pub few : length rest < 2147483640
-
--- what it costs to make one of two that may not be there
-abbrev pub coupling : Option Ref → Option Ref → ℕ
-coupling None None = 0
-coupling None (Some q) = 5
-coupling (Some p) None = 5
-coupling (Some p) (Some q) = 37
-
--- of the two, f made one
-pub record Couples (f : Rope → Rope → Rope) (m m' : List ℕ) (l r d : Option Ref) (before after : ℕ) : Type 0 where
-  pub runs : (x : Couple m l r) → After m m' d (f x.u x.v) x.rest x.most after (before + coupling l r)
-
 -- nothing is taken over
 pub record Free (m : List ℕ) (room : ℕ) : Type 0 where
   pub rest : List Item
@@ -89,44 +56,28 @@ pub record Free (m : List ℕ) (room : ℕ) : Type 0 where
 pub record Leafed (m m' : List ℕ) (b : List ℕ) (d : Option Ref) (before after : ℕ) : Type 0 where
   pub runs : (x : Free m 0) → After m m' d (leaf b) x.rest (all_nodes x.rest) after (before + 31)
 
--- from m to m' the node p was let go, and its children l and r are held in its place
-pub record Parted (m m' : List ℕ) (p l r : ℕ) : Type 0 where
-  pub have : (u v : Tree) (w : List ℕ) (rest : List Item) → Have m (item p (cell_of u v w) ∷ rest) → Have m' (item l u ∷ (item r v ∷ rest))
-
--- the same of a rope's node, by side
+-- from m to m' the node p of a rope was let go, and its children are held in its place, b the one on this side
 pub record Halved (side : Side) (m m' : List ℕ) (p a b : ℕ) : Type 0 where
   pub have : (u v : Rope) (rest : List Item) → Have m (item p (code (node_on side u v)) ∷ rest) → Have m' (item a (code u) ∷ (item b (code v) ∷ rest))
 
--- three parts, of which the second is the highest
-pub record Peak (u v w : Rope) : Type 0 where
+-- three parts are held, of which the second is the highest
+pub record Peak (m : List ℕ) (a b c : ℕ) : Type 0 where
+  pub u : Rope
+  pub v : Rope
+  pub w : Rope
+  pub rest : List Item
   pub first : Inner u
   pub second : Inner v
   pub third : Inner w
   pub high : height v ≡ height w + 1
   pub level : height u ≡ height w
-  pub few : size u + size v + size w < 536870912
-
-pub record Three (F : Rope → Rope → Rope → Type 0) (m : List ℕ) (a b c room : ℕ) : Type 0 where
-  pub u : Rope
-  pub v : Rope
-  pub w : Rope
-  pub rest : List Item
-  pub fit : F u v w
+  pub small : size u + size v + size w < 536870912
   pub have : Have m (item a (code u) ∷ (item b (code v) ∷ (item c (code w) ∷ rest)))
-  pub few : length rest + room < 2147483640
+  pub few : length rest + 8 < 2147483640
 
-pub record Joins3 (F : Rope → Rope → Rope → Type 0) (f : Rope → Rope → Rope → Rope) (price : ℕ) (m m' : List ℕ) (a b c room : ℕ) (d : Option Ref) (before after : ℕ) : Type 0 where
-  pub runs : (x : Three F m a b c room) → After m m' d (f x.u x.v x.w) x.rest (cells x.u + cells x.v + cells x.w + all_nodes x.rest + 1) after (before + price)
-
--- the second and the third part are the children of a node that is too high by one beside the first
-pub record Tilted (u v w : Rope) : Type 0 where
-  pub first : Inner u
-  pub second : Inner v
-  pub third : Inner w
-  pub low : height v ≤ height w + 1
-  pub high : height w ≤ height v + 1
-  pub tall : max (height v) (height w) ≡ height u + 1
-  pub few : size u + size v + size w < 536870912
+-- and became two nodes in one
+pub record Doubles (side : Side) (m m' : List ℕ) (a b c : ℕ) (d : Option Ref) (before after : ℕ) : Type 0 where
+  pub runs : (x : Peak m a b c) → After m m' d (double_on side x.u x.v x.w) x.rest (cells x.u + cells x.v + cells x.w + all_nodes x.rest + 1) after (before + 122)
 
 -- the second part is too high by one
 pub record Leaning (u v : Rope) : Type 0 where

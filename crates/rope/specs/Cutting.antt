@@ -2,13 +2,13 @@
 use Rattle.std.specs.Prelude.{◌≡◌, ℕ, ◌+◌, ◌*◌, ◌<◌, ◌≤◌, List, ◌∷◌, length, Some, None, Option}
 use Rattle.cells.specs.declared.cell.Ref.{Ref}
 use Rattle.cells.specs.Tree.{Tree}
-use Rattle.cells.specs.Have.{Item, item, Have, opt, all_nodes}
+use Rattle.cells.specs.Have.{Item, item, Have, all_nodes}
 use Rattle.ropes.specs.Rope.{Rope, leaf, size, height, cells, Whole}
 use Rattle.ropes.specs.Join.{concat}
 use Rattle.ropes.specs.Cut.{front, back}
 use Rattle.rope_cells.specs.Coded.{code}
 use Rattle.rope.specs.declared.cutting.Cut.{Cut}
-use Rattle.rope.specs.Building.{capacity, Any, concat_price}
+use Rattle.rope.specs.Building.{capacity, Free, Any, concat_price}
 
 -- the two parts, where they were made
 abbrev pub parts : Option Cut → Tree → Tree → List Item → List Item
@@ -16,7 +16,7 @@ parts None f b xs = xs
 parts (Some c) f b xs = item c.front.0 f ∷ (item c.back.0 b ∷ xs)
 
 -- what it costs to let three references go where there is no room
-abbrev pub giving_up : Option Cut → ℕ
+abbrev pub giving_up : {A : Type 0} → Option A → ℕ
 giving_up None = 15
 giving_up (Some c) = 0
 
@@ -56,6 +56,10 @@ pub record Cuts (F : Rope → Type 0) (price : Rope → ℕ) (at : ℕ) (m m' : 
 pub record Splits (at : ℕ) (m m' : List ℕ) (p : ℕ) (d : Option Cut) (before after : ℕ) : Type 0 where
   pub runs : (x : One Short m p 160) → AfterCut m m' d (front x.t at) (back x.t at) x.rest (cells x.t + all_nodes x.rest + 1) after (before + (cut_price at x.t + 2))
 
+-- from m to m' leaves of these bytes were made, or there was no room for both
+pub record Leaves (m m' f b : List ℕ) (d : Option Cut) (before after : ℕ) : Type 0 where
+  pub runs : (x : Free m 1) → AfterCut m m' d (leaf f) (leaf b) x.rest (all_nodes x.rest + 1) after (before + 62)
+
 -- a leaf that is cut inside
 pub record LeafCut (at : ℕ) (t : Rope) : Type 0 where
   pub xs : List ℕ
@@ -74,23 +78,13 @@ pub record Beside (m : List ℕ) (l r q : ℕ) : Type 0 where
   pub have : Have m (item l (code u) ∷ (item r (code v) ∷ (item q (code w) ∷ rest)))
   pub few : length rest + 136 < 2147483640
 
--- u and v became one behind w
-pub record JoinsBack (m m' : List ℕ) (l r q : ℕ) (d : Option Cut) (before after : ℕ) : Type 0 where
-  pub runs : (x : Beside m l r q) → AfterCut m m' d x.w (concat x.u x.v) x.rest (cells x.u + cells x.v + cells x.w + all_nodes x.rest + 1) after (before + concat_price x.u x.v)
+-- one, where it was made, before another
+abbrev pub before : Option Ref → Tree → Item → List Item → List Item
+before None t x xs = xs
+before (Some d) t x xs = item d.0 t ∷ (x ∷ xs)
 
--- and before it
-pub record JoinsFront (m m' : List ℕ) (l r q : ℕ) (d : Option Cut) (before after : ℕ) : Type 0 where
-  pub runs : (x : Beside m l r q) → AfterCut m m' d (concat x.u x.v) x.w x.rest (cells x.u + cells x.v + cells x.w + all_nodes x.rest + 1) after (before + concat_price x.u x.v)
-
--- two parts that were made, or either was not
-pub record Pairing (m : List ℕ) (l r : Option Ref) : Type 0 where
-  pub f : Rope
-  pub b : Rope
-  pub rest : List Item
-  pub most : ℕ
-  pub have : Have m (opt l (code f) (opt r (code b) rest))
-  pub no_left : l ≡ None → capacity (length m) ≤ 8 + most
-  pub no_right : r ≡ None → capacity (length m) ≤ 8 + most
-
-pub record Pairs (m m' : List ℕ) (l r : Option Ref) (d : Option Cut) (before after : ℕ) : Type 0 where
-  pub runs : (x : Pairing m l r) → AfterCut m m' d x.f x.b x.rest x.most after before
+-- u and v became one beside w, or all three were let go
+pub record JoinsBeside (m m' : List ℕ) (l r q : ℕ) (d : Option Ref) (n n' : ℕ) : Type 0 where
+  pub have : (x : Beside m l r q) → Have m' (before d (code (concat x.u x.v)) (item q (code x.w)) x.rest)
+  pub full : (x : Beside m l r q) → d ≡ None → capacity (length m) ≤ 8 + (cells x.u + cells x.v + cells x.w + all_nodes x.rest + 1)
+  pub cost : (x : Beside m l r q) → n' ≤ n + concat_price x.u x.v + giving_up d

@@ -1,14 +1,14 @@
 //! Cutting a rope in two. At its ends and at the edge of a leaf nothing is made anew.
 ghost use Rattle.std.specs.Prelude.{◌≡◌, ℕ, ◌+◌, ◌<◌, ◌≤◌};
 ghost use Rattle.cells.specs.Steps.{Kept};
-ghost use Rattle.rope.specs.Cutting.{One, Sized, Short, cut_price, Cuts, Splits, LeafCut, Beside, JoinsBack, JoinsFront, Pairing, Pairs};
+ghost use Rattle.rope.specs.Cutting.{One, Sized, Short, cut_price, Cuts, Splits, LeafCut, Beside, JoinsBeside};
 
 use crate::joining::concat;
-use crate::making::leaf;
+use crate::making::leaves;
 use crate::parting::halve;
 use crate::sided::Side;
 use cells::{NONE, Ref, release};
-use rope_cells::{left_sum, len, read_leaf, shape_of};
+use rope_cells::{Bytes, left_sum, len, read_leaf, shape_of};
 use words::Words;
 
 /// The parts of a rope.
@@ -18,54 +18,17 @@ pub struct Cut {
     pub back: Ref,
 }
 
-/// Both parts, where both are there; else the one that is there is let go.
-fn pair_up<W: Words>(words: &mut W, front: Option<Ref>, back: Option<Ref>) -> Option<Cut>
-    requires { Pairing (W.Words.row words.old) front back }
-    ensures pairs { Pairs (W.Words.row words.old) (W.Words.row words.new) front back result (W.touched words.old) (W.touched words.new) }
+/// Two ropes as one, with a third beside them, which is let go where there is no room.
+fn concat_beside<W: Words>(words: &mut W, left: Ref, right: Ref, held: Ref) -> Option<Ref>
+    requires { Beside (W.Words.row words.old) left.0 right.0 held.0 }
+    ensures joins { JoinsBeside (W.Words.row words.old) (W.Words.row words.new) left.0 right.0 held.0 result (W.touched words.old) (W.touched words.new) }
     ensures kept { Kept (W.Words.row words.old) (W.Words.row words.new) }
 {
-    match (front, back) {
-        (Some(front), Some(back)) => Some(Cut { front, back }),
-        (Some(front), None) => {
-            release(words, front);
-            None
-        }
-        (None, Some(back)) => {
-            release(words, back);
-            None
-        }
-        (None, None) => None,
-    }
-}
-
-/// The rope `right` behind the back part.
-fn with_back<W: Words>(words: &mut W, front: Ref, back: Ref, right: Ref) -> Option<Cut>
-    requires { Beside (W.Words.row words.old) back.0 right.0 front.0 }
-    ensures joins { JoinsBack (W.Words.row words.old) (W.Words.row words.new) back.0 right.0 front.0 result (W.touched words.old) (W.touched words.new) }
-    ensures kept { Kept (W.Words.row words.old) (W.Words.row words.new) }
-{
-    match concat(words, back, right) {
-        Some(back) => Some(Cut { front, back }),
-        None => {
-            release(words, front);
-            None
-        }
-    }
-}
-
-/// The rope `left` before the front part.
-fn with_front<W: Words>(words: &mut W, left: Ref, front: Ref, back: Ref) -> Option<Cut>
-    requires { Beside (W.Words.row words.old) left.0 front.0 back.0 }
-    ensures joins { JoinsFront (W.Words.row words.old) (W.Words.row words.new) left.0 front.0 back.0 result (W.touched words.old) (W.touched words.new) }
-    ensures kept { Kept (W.Words.row words.old) (W.Words.row words.new) }
-{
-    match concat(words, left, front) {
-        Some(front) => Some(Cut { front, back }),
-        None => {
-            release(words, back);
-            None
-        }
-    }
+    let Some(joined) = concat(words, left, right) else {
+        release(words, held);
+        return None;
+    };
+    Some(joined)
 }
 
 /// A leaf cut inside.
@@ -76,9 +39,8 @@ fn split_leaf<W: Words>(words: &mut W, t: Ref, at: usize) -> Option<Cut>
 {
     let all = read_leaf(words, t);
     release(words, t);
-    let x = leaf(words, &all.bytes[0..at]);
-    let y = leaf(words, &all.bytes[at..all.len]);
-    pair_up(words, x, y)
+    let (front, back) = all.split_at(at);
+    leaves(words, front, back)
 }
 
 /// A rope of `size` bytes cut at place `at`.
@@ -102,24 +64,28 @@ fn split_sized<W: Words>(words: &mut W, t: Ref, size: u32, at: u32) -> Option<Cu
     if shape_of(words, t).height == 1 {
         return split_leaf(words, t, at as usize);
     }
-    let middle = left_sum(words, t, 0);
+    let middle = left_sum::<Bytes, W>(words, t);
     let n = halve(words, Side::Right, t);
     if at < middle {
-        match split_sized(words, n.first, middle, at) {
-            Some(cut) => with_back(words, cut.front, cut.back, n.second),
-            None => {
-                release(words, n.second);
-                None
-            }
-        }
+        let Some(cut) = split_sized(words, n.first, middle, at) else {
+            release(words, n.second);
+            return None;
+        };
+        let back = concat_beside(words, cut.back, n.second, cut.front)?;
+        Some(Cut {
+            front: cut.front,
+            back,
+        })
     } else {
-        match split_sized(words, n.second, size - middle, at - middle) {
-            Some(cut) => with_front(words, n.first, cut.front, cut.back),
-            None => {
-                release(words, n.first);
-                None
-            }
-        }
+        let Some(cut) = split_sized(words, n.second, size - middle, at - middle) else {
+            release(words, n.first);
+            return None;
+        };
+        let front = concat_beside(words, n.first, cut.front, cut.back)?;
+        Some(Cut {
+            front,
+            back: cut.back,
+        })
     }
 }
 

@@ -21,10 +21,8 @@ fn merge_on<W: Words>(words: &mut W, side: Side, first: Ref, second: Ref) -> Opt
     ensures joins { Joins TwoLeaves (merge_on side) (λ _ _. 135) 0 (W.Words.row words.old) (W.Words.row words.new) first.0 second.0 2 result (W.touched words.old) (W.touched words.new) }
     ensures kept { Kept (W.Words.row words.old) (W.Words.row words.new) }
 {
-    match side {
-        Side::Right => merge(words, first, second),
-        Side::Left => merge(words, second, first),
-    }
+    let (left, right) = side.ordered(first, second);
+    merge(words, left, right)
 }
 
 /// Whether two ropes may be the children of a node, where the first is not lower.
@@ -49,13 +47,11 @@ fn attach<W: Words>(words: &mut W, side: Side, host: Ref, guest: Ref, fuel: u32)
         return node_on(words, side, host, guest);
     }
     let n = halve(words, side, host);
-    match attach(words, side, n.second, guest, fuel - 1) {
-        Some(x) => balance(words, side, n.first, x),
-        None => {
-            release(words, n.first);
-            None
-        }
-    }
+    let Some(inner) = attach(words, side, n.second, guest, fuel - 1) else {
+        release(words, n.first);
+        return None;
+    };
+    balance(words, side, n.first, inner)
 }
 
 /// The bytes of one rope and then those of the other, as a rope.

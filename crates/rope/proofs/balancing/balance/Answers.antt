@@ -1,45 +1,45 @@
-use Rattle.std.proofs.Common.{arith}
-use Rattle.cells.specs.Steps.{Kept}
+use Rattle.std.proofs.Common.{refl, arith}
 use Rattle.ropes.proofs.Depths.{height_low}
 use Rattle.ropes.proofs.Joins.{inner_whole}
-use Rattle.rope.proofs.Rotates.{first_near, second_near, near_leaning, near_fit, balanced_rotate, balanced_node}
+use Rattle.rope.proofs.Holds.{after_by}
+use Rattle.rope.proofs.Sides.{balance_rotated, balance_node, rotations_on_one}
+use Rattle.rope.proofs.Rotates.{near_first, near_second, near_leaning, near_fit, near_high, near_low}
 use Rattle.rope.proofs.balancing.balance.Goals as goal
 
-pub shapes_of-s-requires : goal.shapes_of-s-requires
-shapes_of-s-requires g c = record { first = first_near _ _ _ c.requires; second = second_near _ _ _ c.requires }
+pub shapes_of-s-requires-clause-first : goal.shapes_of-s-requires-clause-first
+shapes_of-s-requires-clause-first g c = near_first c.requires
+
+pub shapes_of-s-requires-clause-second : goal.shapes_of-s-requires-clause-second
+shapes_of-s-requires-clause-second g c = near_second c.requires
 
 pub overflow_add-s : goal.overflow_add-s
 overflow_add-s g c =
     let x = c.requires in
-    let low = height_low x.u (inner_whole x.u x.fit.first) (omega (arith, x.fit.few)) in
-    omega (arith, low, (c.shapes_of-s.ensures.first (first_near _ _ _ c.requires)).high)
+    omega (arith, height_low x.u (inner_whole x.u x.fit.first) (omega (arith, x.fit.few)), (c.shapes_of-s.ensures.first (near_first x)).high)
 
 pub rotate-requires : goal.rotate-requires
 rotate-requires g c =
     let s = c.shapes_of-s.ensures in
-    near_leaning _ _ _ c.args.side _ _ s.first s.second _ s.same c.if-s.true c.requires
+    rw s.same (near_leaning c.requires (near_high c.requires s.first s.second c.if-s.true))
 
 pub node_on-requires : goal.node_on-requires
-node_on-requires g c =
-    let s = c.shapes_of-s.ensures in
-    near_fit _ _ _ c.args.side _ _ s.first s.second _ s.same c.if-s.false c.requires
+node_on-requires g c = rw c.shapes_of-s.ensures.same (near_fit c.requires)
 
-pub returns-then-s : goal.returns-then-s
-returns-then-s g c =
+pub returns-then-s-clause-joins : goal.returns-then-s-clause-joins
+returns-then-s-clause-joins g c =
     let s = c.shapes_of-s.ensures in
-    let row = g.W.Words.row in
-    let kept : Kept (row c.args.words.now) (row c.rotate.new.words) = rw s.same at c.rotate.ensures.kept in
+    let last = rw s.same at c.rotate.ensures.joins in
     record {
-      joins = balanced_rotate _ _ _ c.args.side _ _ s.first s.second _ s.same c.if-s.true _ _ _ _ _ c.rotate.ensures.joins s.touches;
-      kept = kept;
+      runs = λ x.
+          let h = near_high x s.first s.second c.if-s.true in
+          after_by (last.runs (near_leaning x h)) refl (balance_rotated c.args.side x.u x.v h) (omega arith) (omega (arith, s.touches, rotations_on_one c.args.side x.u x.v h));
     }
 
-pub returns-else-s : goal.returns-else-s
-returns-else-s g c =
+pub returns-else-s-clause-joins : goal.returns-else-s-clause-joins
+returns-else-s-clause-joins g c =
     let s = c.shapes_of-s.ensures in
-    let row = g.W.Words.row in
-    let kept : Kept (row c.args.words.now) (row c.node_on.new.words) = rw s.same at c.node_on.ensures.kept in
+    let last = rw s.same at c.node_on.ensures.joins in
     record {
-      joins = balanced_node _ _ _ c.args.side _ _ s.first s.second _ s.same c.if-s.false _ _ _ _ _ c.node_on.ensures.joins s.touches;
-      kept = kept;
+      runs = λ x.
+          after_by (last.runs (near_fit x)) refl (balance_node c.args.side x.u x.v x.fit.low (near_low x s.first s.second c.if-s.false)) (omega arith) (omega (arith, s.touches));
     }

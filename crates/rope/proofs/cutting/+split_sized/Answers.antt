@@ -1,228 +1,123 @@
-use Rattle.std.proofs.Common.{◌≡◌, ◌+◌, ◌<◌, ◌≤◌, ◌≢◌, refl, arith}
-use Rattle.cells.specs.Steps.{Kept}
-use Rattle.cells.proofs.Sharings.{kept_same, kept_on}
-use Rattle.rope.proofs.Splits.{cuts_zero, cuts_all, sized_lends, sized_leaf, cuts_leaf, sized_node, cuts_node, inside_children, inside_opening, middle_bounds, left_one, left_beside, left_some, left_holding, left_none, right_one, right_beside, right_some, right_holding, right_none}
+use Rattle.std.proofs.Common.{◌<◌, ◌≤◌, ℕ, Some, None, refl, arith}
+use Rattle.rope.proofs.Cuttings.{after_cut_by}
+use Rattle.rope.proofs.Splits.{cuts_zero, cuts_all, sized_some, sized_lends, sized_leaf, sized_view, sized_children, sized_opening, sized_middle, Inside, middle_bounds, left_one, left_beside, left_joined, left_holding, left_none, right_one, right_beside, right_joined, right_holding, right_none}
+use Rattle.rope.proofs.cutting.+split_sized.Given.{Over}
+use Rattle.rope.proofs.cutting.+split_sized.Goals.{After-halve-n}
 use Rattle.rope.proofs.cutting.+split_sized.Goals as goal
 
-pub returns-then-at-eq0 : goal.returns-then-at-eq0
-returns-then-at-eq0 g t c = record { cuts = cuts_zero _ c.args.t _ _ _ _ refl c.if-at-eq0.true; kept = kept_same _ }
+pub returns-then-at-eq0-clause-cuts : goal.returns-then-at-eq0-clause-cuts
+returns-then-at-eq0-clause-cuts g t c = cuts_zero refl c.if-at-eq0.true
 
-pub returns-then-at-size : goal.returns-then-at-size
-returns-then-at-size g t c = record { cuts = cuts_all _ c.args.t _ _ _ _ refl c.if-at-size.true; kept = kept_same _ }
+pub returns-then-at-size-clause-cuts : goal.returns-then-at-size-clause-cuts
+returns-then-at-size-clause-cuts g t c = cuts_all refl c.if-at-size.true
 
 pub shape_of-requires : goal.shape_of-requires
-shape_of-requires g t c =
-    let s = c.args.size in
-    let at = c.args.at in
-    let some : 1 ≤ at = omega arith in
-    let inside : at < s = omega arith in
-    sized_lends _ _ s at some inside c.requires
+shape_of-requires g t c = sized_lends c.requires c.args.at (omega arith) (omega arith)
 
 pub split_leaf-requires : goal.split_leaf-requires
 split_leaf-requires g t c =
-    let s = c.args.size in
-    let at = c.args.at in
-    let some : 1 ≤ at = omega arith in
-    let inside : at < s = omega arith in
     let sh = c.shape_of.ensures in
-    sized_leaf _ _ s at some inside _ sh.value _ sh.same _ _ sh.touches c.if-shape_of-eq1.true c.requires
+    rw sh.same (sized_leaf c.requires c.args.at (omega arith) (omega arith) sh.value c.if-shape_of-eq1.true)
 
-pub returns-then-shape_of-eq1 : goal.returns-then-shape_of-eq1
-returns-then-shape_of-eq1 g t c =
-    let s = c.args.size in
+pub returns-then-shape_of-eq1-clause-cuts : goal.returns-then-shape_of-eq1-clause-cuts
+returns-then-shape_of-eq1-clause-cuts g t c =
+    let sh = c.shape_of.ensures in
+    let last = rw sh.same at c.split_leaf.ensures.cuts in
     let at = c.args.at in
     let some : 1 ≤ at = omega arith in
-    let inside : at < s = omega arith in
-    let sh = c.shape_of.ensures in
-    let row = g.W.Words.row in
-    let kept : Kept (row c.args.words.now) (row c.split_leaf.new.words) = rw sh.same at c.split_leaf.ensures.kept in
-    record { cuts = cuts_leaf _ _ s at some inside _ sh.value _ sh.same _ _ sh.touches c.if-shape_of-eq1.true _ _ _ c.split_leaf.ensures.cuts; kept = kept }
+    let inside : at < c.args.size = omega arith in
+    record { runs = λ x. after_cut_by (last.runs (sized_leaf x at some inside sh.value c.if-shape_of-eq1.true)) refl refl refl (omega arith) (omega (arith, sh.touches, sized_some x at some inside)) }
 
 pub left_sum-middle-requires : goal.left_sum-middle-requires
 left_sum-middle-requires g t c =
-    let s = c.args.size in
-    let at = c.args.at in
-    let some : 1 ≤ at = omega arith in
-    let inside : at < s = omega arith in
     let sh = c.shape_of.ensures in
-    let more : c.shape_of.result.height ≢ 1 = c.if-shape_of-eq1.false in
-    let y = sized_node _ _ s at some inside _ sh.value _ sh.same _ _ sh.touches more c.requires in
-    record { node = inside_children s at some inside _ _ y; place = omega arith }
+    rw sh.same (sized_children c.requires (sized_view c.requires c.args.at (omega arith) (omega arith) sh.value c.if-shape_of-eq1.false))
 
 pub halve-n-requires : goal.halve-n-requires
 halve-n-requires g t c =
-    let s = c.args.size in
+    let sh = c.shape_of.ensures in
+    rw (c.left_sum-middle.ensures.same, sh.same) (sized_opening c.requires (sized_view c.requires c.args.at (omega arith) (omega arith) sh.value c.if-shape_of-eq1.false))
+
+-- what is known of the children
+inside : (g : Over) (t : ℕ) (c : After-halve-n g t)
+    → Inside c.args.size c.args.at c.left_sum-middle.result (g.W.Words.row c.args.words.now) (g.W.Words.row c.halve-n.new.words) c.args.t.0 c.halve-n.result.first.0 c.halve-n.result.second.0 (g.W.Words.touched c.args.words.now) (g.W.Words.touched c.halve-n.new.words)
+inside g t c =
+    let sh = c.shape_of.ensures in
+    let mid = c.left_sum-middle.ensures in
+    let h = c.halve-n.ensures in
     let at = c.args.at in
     let some : 1 ≤ at = omega arith in
-    let inside : at < s = omega arith in
-    let sh = c.shape_of.ensures in
-    let more : c.shape_of.result.height ≢ 1 = c.if-shape_of-eq1.false in
-    let y = sized_node _ _ s at some inside _ sh.value _ sh.same _ _ sh.touches more c.requires in
-    let mid = c.left_sum-middle.ensures in
-    rw mid.same (inside_opening s at some inside _ _ y)
+    let inside : at < c.args.size = omega arith in
+    let is_k = rw sh.same at mid.value in
+    let cut = rw (mid.same, sh.same) at h.halved in
+    let long = rw (mid.same, sh.same) at h.kept.long in
+    record {
+      some = some;
+      inside = inside;
+      view = λ x. sized_view x at some inside sh.value c.if-shape_of-eq1.false;
+      middle = λ x. sized_middle x (sized_view x at some inside sh.value c.if-shape_of-eq1.false) is_k;
+      cut = cut;
+      long = long;
+      cost = omega (arith, sh.touches, mid.touches, h.touches);
+    }
 
 pub split_sized-requires : goal.split_sized-requires
 split_sized-requires g t c κs within =
-    let s = c.args.size in
-    let at = c.args.at in
-    let some : 1 ≤ at = omega arith in
-    let inside : at < s = omega arith in
-    let sh = c.shape_of.ensures in
-    let more : c.shape_of.result.height ≢ 1 = c.if-shape_of-eq1.false in
-    let y = sized_node _ _ s at some inside _ sh.value _ sh.same _ _ sh.touches more c.requires in
-    let mid = c.left_sum-middle.ensures in
-    let h = c.halve-n.ensures in
-    let cost : g.W.Words.touched c.halve-n.new.words ≤ g.W.Words.touched c.args.words.now + 13 = omega (arith, sh.touches, mid.touches, h.touches) in
-    let b = middle_bounds s at some inside _ _ _ mid.value _ mid.same y in
-    (omega (arith, b.1, c.decreases), (within, left_one s at some inside _ _ _ mid.value _ mid.same _ _ _ h.halved h.kept.long _ _ cost c.if-at-middle.true y))
-
-pub with_back-requires : goal.with_back-requires
-with_back-requires g t c =
-    let s = c.args.size in
-    let at = c.args.at in
-    let some : 1 ≤ at = omega arith in
-    let inside : at < s = omega arith in
-    let sh = c.shape_of.ensures in
-    let more : c.shape_of.result.height ≢ 1 = c.if-shape_of-eq1.false in
-    let y = sized_node _ _ s at some inside _ sh.value _ sh.same _ _ sh.touches more c.requires in
-    let mid = c.left_sum-middle.ensures in
-    let h = c.halve-n.ensures in
-    let cost : g.W.Words.touched c.halve-n.new.words ≤ g.W.Words.touched c.args.words.now + 13 = omega (arith, sh.touches, mid.touches, h.touches) in
-    left_beside s at some inside _ _ _ mid.value _ mid.same _ _ _ h.halved h.kept.long _ _ cost c.if-at-middle.true _ _ c.in-Some.ensures.kept.long _ c.in-Some.ensures.cuts y
+    let i = inside g t (goal.at.split_sized-requires g t c).After-halve-n in
+    (omega (arith, (middle_bounds i c.requires).1, c.decreases), (within, left_one i c.requires c.if-at-middle.true))
 
 pub release-requires : goal.release-requires
-release-requires g t c =
-    let s = c.args.size in
-    let at = c.args.at in
-    let some : 1 ≤ at = omega arith in
-    let inside : at < s = omega arith in
-    let sh = c.shape_of.ensures in
-    let more : c.shape_of.result.height ≢ 1 = c.if-shape_of-eq1.false in
-    let y = sized_node _ _ s at some inside _ sh.value _ sh.same _ _ sh.touches more c.requires in
-    let mid = c.left_sum-middle.ensures in
-    let h = c.halve-n.ensures in
-    let cost : g.W.Words.touched c.halve-n.new.words ≤ g.W.Words.touched c.args.words.now + 13 = omega (arith, sh.touches, mid.touches, h.touches) in
-    left_holding s at some inside _ _ _ mid.value _ mid.same _ _ _ h.halved h.kept.long _ _ cost c.if-at-middle.true _ _ c.in-None.ensures.kept.long c.in-None.ensures.cuts y
+release-requires g t c = left_holding (inside g t (goal.at.release-requires g t c).After-halve-n) c.requires c.if-at-middle.true c.in_default.ensures.cuts
+
+pub returns-in_default-clause-cuts : goal.returns-in_default-clause-cuts
+returns-in_default-clause-cuts g t c =
+    let i = inside g t (goal.at.returns-in_default-clause-cuts g t c).After-halve-n in
+    let gone = c.release.ensures in
+    record { runs = λ x. left_none i x c.if-at-middle.true c.in_default.ensures.cuts gone.released gone.touches }
+
+pub concat_beside-requires : goal.concat_beside-requires
+concat_beside-requires g t c = left_beside (inside g t (goal.at.concat_beside-requires g t c).After-halve-n) c.requires c.if-at-middle.true c.in-Some.ensures.cuts
+
+pub returns-in_err-back-clause-cuts : goal.returns-in_err-back-clause-cuts
+returns-in_err-back-clause-cuts g t c =
+    let i = inside g t (goal.at.returns-in_err-back-clause-cuts g t c).After-halve-n in
+    let one = c.in-Some.ensures in
+    rw c.from_residual.ensures (record { runs = λ x. left_joined i x c.if-at-middle.true one.cuts None c.in_err-back.ensures.joins one.kept.long })
+
+pub returns-in_ok-back-clause-cuts : goal.returns-in_ok-back-clause-cuts
+returns-in_ok-back-clause-cuts g t c =
+    let i = inside g t (goal.at.returns-in_ok-back-clause-cuts g t c).After-halve-n in
+    let one = c.in-Some.ensures in
+    record { runs = λ x. left_joined i x c.if-at-middle.true one.cuts (Some c.in_ok-back.back) c.in_ok-back.ensures.joins one.kept.long }
 
 pub split_sized-requires-else-at-middle : goal.split_sized-requires-else-at-middle
 split_sized-requires-else-at-middle g t c κs within =
-    let s = c.args.size in
-    let at = c.args.at in
-    let some : 1 ≤ at = omega arith in
-    let inside : at < s = omega arith in
-    let sh = c.shape_of.ensures in
-    let more : c.shape_of.result.height ≢ 1 = c.if-shape_of-eq1.false in
-    let y = sized_node _ _ s at some inside _ sh.value _ sh.same _ _ sh.touches more c.requires in
-    let mid = c.left_sum-middle.ensures in
-    let h = c.halve-n.ensures in
-    let cost : g.W.Words.touched c.halve-n.new.words ≤ g.W.Words.touched c.args.words.now + 13 = omega (arith, sh.touches, mid.touches, h.touches) in
-    let b = middle_bounds s at some inside _ _ _ mid.value _ mid.same y in
-    (omega (arith, b.0, b.1, c.decreases), (within, right_one s at some inside _ _ _ mid.value _ mid.same _ _ _ h.halved h.kept.long _ _ cost c.if-at-middle.false y))
+    let i = inside g t (goal.at.split_sized-requires-else-at-middle g t c).After-halve-n in
+    let b = middle_bounds i c.requires in
+    (omega (arith, b.0, b.1, c.decreases), (within, right_one i c.requires c.if-at-middle.false))
 
-pub with_front-requires : goal.with_front-requires
-with_front-requires g t c =
-    let s = c.args.size in
-    let at = c.args.at in
-    let some : 1 ≤ at = omega arith in
-    let inside : at < s = omega arith in
-    let sh = c.shape_of.ensures in
-    let more : c.shape_of.result.height ≢ 1 = c.if-shape_of-eq1.false in
-    let y = sized_node _ _ s at some inside _ sh.value _ sh.same _ _ sh.touches more c.requires in
-    let mid = c.left_sum-middle.ensures in
-    let h = c.halve-n.ensures in
-    let cost : g.W.Words.touched c.halve-n.new.words ≤ g.W.Words.touched c.args.words.now + 13 = omega (arith, sh.touches, mid.touches, h.touches) in
-    right_beside s at some inside _ _ _ mid.value _ mid.same _ _ _ h.halved h.kept.long _ _ cost c.if-at-middle.false _ _ c.in-Some-split_sized.ensures.kept.long _ c.in-Some-split_sized.ensures.cuts y
+pub release-requires-in_default-split_sized : goal.release-requires-in_default-split_sized
+release-requires-in_default-split_sized g t c =
+    right_holding (inside g t (goal.at.release-requires-in_default-split_sized g t c).After-halve-n) c.requires c.if-at-middle.false c.in_default-split_sized.ensures.cuts
 
-pub release-requires-in-None-split_sized : goal.release-requires-in-None-split_sized
-release-requires-in-None-split_sized g t c =
-    let s = c.args.size in
-    let at = c.args.at in
-    let some : 1 ≤ at = omega arith in
-    let inside : at < s = omega arith in
-    let sh = c.shape_of.ensures in
-    let more : c.shape_of.result.height ≢ 1 = c.if-shape_of-eq1.false in
-    let y = sized_node _ _ s at some inside _ sh.value _ sh.same _ _ sh.touches more c.requires in
-    let mid = c.left_sum-middle.ensures in
-    let h = c.halve-n.ensures in
-    let cost : g.W.Words.touched c.halve-n.new.words ≤ g.W.Words.touched c.args.words.now + 13 = omega (arith, sh.touches, mid.touches, h.touches) in
-    right_holding s at some inside _ _ _ mid.value _ mid.same _ _ _ h.halved h.kept.long _ _ cost c.if-at-middle.false _ _ c.in-None-split_sized.ensures.kept.long c.in-None-split_sized.ensures.cuts y
+pub returns-in_default-split_sized-clause-cuts : goal.returns-in_default-split_sized-clause-cuts
+returns-in_default-split_sized-clause-cuts g t c =
+    let i = inside g t (goal.at.returns-in_default-split_sized-clause-cuts g t c).After-halve-n in
+    let gone = c.release-in_default-split_sized.ensures in
+    record { runs = λ x. right_none i x c.if-at-middle.false c.in_default-split_sized.ensures.cuts gone.released gone.touches }
 
-pub returns-in-Some : goal.returns-in-Some
-returns-in-Some g t c =
-    let s = c.args.size in
-    let at = c.args.at in
-    let some : 1 ≤ at = omega arith in
-    let inside : at < s = omega arith in
-    let sh = c.shape_of.ensures in
-    let more : c.shape_of.result.height ≢ 1 = c.if-shape_of-eq1.false in
-    let mid = c.left_sum-middle.ensures in
-    let h = c.halve-n.ensures in
-    let cost : g.W.Words.touched c.halve-n.new.words ≤ g.W.Words.touched c.args.words.now + 13 = omega (arith, sh.touches, mid.touches, h.touches) in
-    let row = g.W.Words.row in
-    let same : row c.left_sum-middle.new.words ≡ row c.args.words.now = let a = sh.same in let b = mid.same in cc in
-    let kept : Kept (row c.args.words.now) (row c.halve-n.new.words) = rw same at h.kept in
-    record {
-      cuts = cuts_node _ _ s at some inside _ sh.value _ sh.same _ _ sh.touches more _ _ _
-          (left_some s at some inside _ _ _ mid.value _ mid.same _ _ _ h.halved h.kept.long _ _ cost c.if-at-middle.true _ _ c.in-Some.ensures.kept.long _ c.in-Some.ensures.cuts _ _ _ c.with_back.ensures.joins);
-      kept = kept_on _ _ _ kept (kept_on _ _ _ c.in-Some.ensures.kept c.with_back.ensures.kept);
-    }
+pub concat_beside-requires-else-at-middle : goal.concat_beside-requires-else-at-middle
+concat_beside-requires-else-at-middle g t c =
+    right_beside (inside g t (goal.at.concat_beside-requires-else-at-middle g t c).After-halve-n) c.requires c.if-at-middle.false c.in-Some-split_sized.ensures.cuts
 
-pub returns-in-None : goal.returns-in-None
-returns-in-None g t c =
-    let s = c.args.size in
-    let at = c.args.at in
-    let some : 1 ≤ at = omega arith in
-    let inside : at < s = omega arith in
-    let sh = c.shape_of.ensures in
-    let more : c.shape_of.result.height ≢ 1 = c.if-shape_of-eq1.false in
-    let mid = c.left_sum-middle.ensures in
-    let h = c.halve-n.ensures in
-    let cost : g.W.Words.touched c.halve-n.new.words ≤ g.W.Words.touched c.args.words.now + 13 = omega (arith, sh.touches, mid.touches, h.touches) in
-    let row = g.W.Words.row in
-    let same : row c.left_sum-middle.new.words ≡ row c.args.words.now = let a = sh.same in let b = mid.same in cc in
-    let kept : Kept (row c.args.words.now) (row c.halve-n.new.words) = rw same at h.kept in
-    record {
-      cuts = cuts_node _ _ s at some inside _ sh.value _ sh.same _ _ sh.touches more _ _ _
-          (left_none s at some inside _ _ _ mid.value _ mid.same _ _ _ h.halved h.kept.long _ _ cost c.if-at-middle.true _ _ c.in-None.ensures.kept.long c.in-None.ensures.cuts _ _ c.release.ensures.released c.release.ensures.touches);
-      kept = kept_on _ _ _ kept (kept_on _ _ _ c.in-None.ensures.kept c.release.ensures.kept);
-    }
+pub returns-in_err-front-clause-cuts : goal.returns-in_err-front-clause-cuts
+returns-in_err-front-clause-cuts g t c =
+    let i = inside g t (goal.at.returns-in_err-front-clause-cuts g t c).After-halve-n in
+    let one = c.in-Some-split_sized.ensures in
+    rw c.from_residual-in_err-front.ensures (record { runs = λ x. right_joined i x c.if-at-middle.false one.cuts None c.in_err-front.ensures.joins one.kept.long })
 
-pub returns-in-Some-split_sized : goal.returns-in-Some-split_sized
-returns-in-Some-split_sized g t c =
-    let s = c.args.size in
-    let at = c.args.at in
-    let some : 1 ≤ at = omega arith in
-    let inside : at < s = omega arith in
-    let sh = c.shape_of.ensures in
-    let more : c.shape_of.result.height ≢ 1 = c.if-shape_of-eq1.false in
-    let mid = c.left_sum-middle.ensures in
-    let h = c.halve-n.ensures in
-    let cost : g.W.Words.touched c.halve-n.new.words ≤ g.W.Words.touched c.args.words.now + 13 = omega (arith, sh.touches, mid.touches, h.touches) in
-    let row = g.W.Words.row in
-    let same : row c.left_sum-middle.new.words ≡ row c.args.words.now = let a = sh.same in let b = mid.same in cc in
-    let kept : Kept (row c.args.words.now) (row c.halve-n.new.words) = rw same at h.kept in
-    record {
-      cuts = cuts_node _ _ s at some inside _ sh.value _ sh.same _ _ sh.touches more _ _ _
-          (right_some s at some inside _ _ _ mid.value _ mid.same _ _ _ h.halved h.kept.long _ _ cost c.if-at-middle.false _ _ c.in-Some-split_sized.ensures.kept.long _ c.in-Some-split_sized.ensures.cuts _ _ _ c.with_front.ensures.joins);
-      kept = kept_on _ _ _ kept (kept_on _ _ _ c.in-Some-split_sized.ensures.kept c.with_front.ensures.kept);
-    }
-
-pub returns-in-None-split_sized : goal.returns-in-None-split_sized
-returns-in-None-split_sized g t c =
-    let s = c.args.size in
-    let at = c.args.at in
-    let some : 1 ≤ at = omega arith in
-    let inside : at < s = omega arith in
-    let sh = c.shape_of.ensures in
-    let more : c.shape_of.result.height ≢ 1 = c.if-shape_of-eq1.false in
-    let mid = c.left_sum-middle.ensures in
-    let h = c.halve-n.ensures in
-    let cost : g.W.Words.touched c.halve-n.new.words ≤ g.W.Words.touched c.args.words.now + 13 = omega (arith, sh.touches, mid.touches, h.touches) in
-    let row = g.W.Words.row in
-    let same : row c.left_sum-middle.new.words ≡ row c.args.words.now = let a = sh.same in let b = mid.same in cc in
-    let kept : Kept (row c.args.words.now) (row c.halve-n.new.words) = rw same at h.kept in
-    record {
-      cuts = cuts_node _ _ s at some inside _ sh.value _ sh.same _ _ sh.touches more _ _ _
-          (right_none s at some inside _ _ _ mid.value _ mid.same _ _ _ h.halved h.kept.long _ _ cost c.if-at-middle.false _ _ c.in-None-split_sized.ensures.kept.long c.in-None-split_sized.ensures.cuts _ _ c.release-in-None-split_sized.ensures.released c.release-in-None-split_sized.ensures.touches);
-      kept = kept_on _ _ _ kept (kept_on _ _ _ c.in-None-split_sized.ensures.kept c.release-in-None-split_sized.ensures.kept);
-    }
+pub returns-in_ok-front-clause-cuts : goal.returns-in_ok-front-clause-cuts
+returns-in_ok-front-clause-cuts g t c =
+    let i = inside g t (goal.at.returns-in_ok-front-clause-cuts g t c).After-halve-n in
+    let one = c.in-Some-split_sized.ensures in
+    record { runs = λ x. right_joined i x c.if-at-middle.false one.cuts (Some c.in_ok-front.front) c.in_ok-front.ensures.joins one.kept.long }

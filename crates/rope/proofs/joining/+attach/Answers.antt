@@ -1,117 +1,107 @@
-use Rattle.std.proofs.Common.{◌≡◌, true, false, ◌≢◌, sym, arith}
-use Rattle.cells.specs.Steps.{Kept}
-use Rattle.cells.proofs.Sharings.{kept_on}
-use Rattle.rope_cells.specs.Lending.{beside}
-use Rattle.rope.proofs.Attaches.{host_some, guest_some, guest_low, onto_leaves, attached_leaf, onto_node, attached_node, hosts, host_opening, host_fuel, inner_two, outer_two, outer_holding, attached_some, attached_none, attached_inside}
+use Rattle.std.proofs.Common.{sym, ◌∙◌, arith}
+use Rattle.rope.proofs.Attaches.{host_some, guest_some, guest_low, onto_node, onto_leaves, attached_leaf, attached_node, host_opening, host_fuel, inner_two, outer_two, attached_inside, outer_holding, attached_none, host_one, host_view, beside_is}
 use Rattle.rope.proofs.joining.+attach.Goals as goal
 
-pub shapes_of-s-requires : goal.shapes_of-s-requires
-shapes_of-s-requires g t c = record { first = host_some c.args.side c.args.fuel _ _ _ c.requires; second = guest_some c.args.side c.args.fuel _ _ _ c.requires }
+pub shapes_of-s-requires-clause-first : goal.shapes_of-s-requires-clause-first
+shapes_of-s-requires-clause-first g t c = host_some c.args.side c.requires
+
+pub shapes_of-s-requires-clause-second : goal.shapes_of-s-requires-clause-second
+shapes_of-s-requires-clause-second g t c = guest_some c.args.side c.requires
 
 pub merge_on-requires : goal.merge_on-requires
 merge_on-requires g t c =
     let s = c.shapes_of-s.ensures in
-    onto_leaves c.args.side c.args.fuel _ _ _ _ _ s.first s.second _ s.same _ _ s.touches c.if-s-eq1.true c.requires
+    rw s.same (onto_leaves c.args.side c.requires (host_one c.args.side c.requires s.first s.second c.if-s-eq1.true))
 
-pub returns-then-s-eq1 : goal.returns-then-s-eq1
-returns-then-s-eq1 g t c =
+pub returns-then-s-eq1-clause-joins : goal.returns-then-s-eq1-clause-joins
+returns-then-s-eq1-clause-joins g t c =
     let s = c.shapes_of-s.ensures in
-    let row = g.W.Words.row in
-    let kept : Kept (row c.args.words.now) (row c.merge_on.new.words) = rw s.same at c.merge_on.ensures.kept in
-    record {
-      joins = attached_leaf c.args.side c.args.fuel _ _ _ _ _ s.first s.second _ s.same _ _ s.touches c.if-s-eq1.true _ _ _ c.merge_on.ensures.joins;
-      kept = kept;
-    }
+    let last = rw s.same at c.merge_on.ensures.joins in
+    record { runs = λ x. attached_leaf c.args.side x (host_one c.args.side x s.first s.second c.if-s-eq1.true) _ last s.touches }
 
 pub fits_beside-requires : goal.fits_beside-requires
-fits_beside-requires g t c =
-    let s = c.shapes_of-s.ensures in
-    guest_low c.args.side c.args.fuel _ _ _ _ _ s.first s.second _ s.same _ _ s.touches c.requires
+fits_beside-requires g t c = omega (arith, (c.shapes_of-s.ensures.second (guest_some c.args.side c.requires)).high, guest_low c.args.side c.requires)
 
 pub node_on-requires : goal.node_on-requires
-node_on-requires g t c =
-    let s = c.shapes_of-s.ensures in
-    let more : c.shapes_of-s.result.first.height ≢ 1 = c.if-s-eq1.false in
-    let near : beside c.shapes_of-s.result.first c.shapes_of-s.result.second ≡ true = sym c.if-fits_beside.ensures in
-    onto_node c.args.side c.args.fuel _ _ _ _ _ s.first s.second _ s.same _ _ s.touches more near c.requires
+node_on-requires g t c = rw c.shapes_of-s.ensures.same (onto_node c.args.side c.requires)
 
-pub returns-then-fits_beside : goal.returns-then-fits_beside
-returns-then-fits_beside g t c =
+pub returns-then-fits_beside-clause-joins : goal.returns-then-fits_beside-clause-joins
+returns-then-fits_beside-clause-joins g t c =
     let s = c.shapes_of-s.ensures in
-    let row = g.W.Words.row in
-    let more : c.shapes_of-s.result.first.height ≢ 1 = c.if-s-eq1.false in
-    let near : beside c.shapes_of-s.result.first c.shapes_of-s.result.second ≡ true = sym c.if-fits_beside.ensures in
-    let kept : Kept (row c.args.words.now) (row c.node_on.new.words) = rw s.same at c.node_on.ensures.kept in
-    record {
-      joins = attached_node c.args.side c.args.fuel _ _ _ _ _ s.first s.second _ s.same _ _ s.touches more near _ _ _ c.node_on.ensures.joins;
-      kept = kept;
-    }
+    let last = rw s.same at c.node_on.ensures.joins in
+    let side = c.args.side in
+    record { runs = λ x. attached_node side x (host_view side x s.first s.second c.if-s-eq1.false) _ (beside_is side x s.first s.second ∙ sym c.if-fits_beside.ensures) last s.touches }
 
 pub halve-n-requires : goal.halve-n-requires
 halve-n-requires g t c =
     let s = c.shapes_of-s.ensures in
-    let more : c.shapes_of-s.result.first.height ≢ 1 = c.if-s-eq1.false in
-    let apart : beside c.shapes_of-s.result.first c.shapes_of-s.result.second ≡ false = sym c.if-fits_beside.ensures in
-    let h = hosts c.args.side c.args.fuel _ _ _ _ _ s.first s.second _ s.same _ _ s.touches more apart c.requires in
-    host_opening c.args.side c.args.fuel _ _ _ h
+    rw s.same (host_opening c.args.side c.requires (host_view c.args.side c.requires s.first s.second c.if-s-eq1.false))
 
 pub overflow_sub-fuel : goal.overflow_sub-fuel
 overflow_sub-fuel g t c =
     let s = c.shapes_of-s.ensures in
-    let more : c.shapes_of-s.result.first.height ≢ 1 = c.if-s-eq1.false in
-    let apart : beside c.shapes_of-s.result.first c.shapes_of-s.result.second ≡ false = sym c.if-fits_beside.ensures in
-    let h = hosts c.args.side c.args.fuel _ _ _ _ _ s.first s.second _ s.same _ _ s.touches more apart c.requires in
-    host_fuel c.args.side c.args.fuel _ _ _ h
+    host_fuel c.args.side c.requires (host_view c.args.side c.requires s.first s.second c.if-s-eq1.false)
 
 pub attach-requires : goal.attach-requires
 attach-requires g t c κs within =
+    let side = c.args.side in
     let s = c.shapes_of-s.ensures in
-    let more : c.shapes_of-s.result.first.height ≢ 1 = c.if-s-eq1.false in
-    let apart : beside c.shapes_of-s.result.first c.shapes_of-s.result.second ≡ false = sym c.if-fits_beside.ensures in
-    let h = hosts c.args.side c.args.fuel _ _ _ _ _ s.first s.second _ s.same _ _ s.touches more apart c.requires in
-    let some = host_fuel c.args.side c.args.fuel _ _ _ h in
-    (omega (arith, some, c.decreases), (within, inner_two c.args.side c.args.fuel _ _ _ _ _ _ c.halve-n.ensures.halved c.halve-n.ensures.kept.long h))
+    let h = c.halve-n.ensures in
+    let cut = rw s.same at h.halved in
+    let x = c.requires in
+    let o = host_view side x s.first s.second c.if-s-eq1.false in
+    let far = beside_is side x s.first s.second ∙ sym c.if-fits_beside.ensures in
+    let some = host_fuel side x o in
+    (omega (arith, c.decreases), (within, inner_two side x o far cut))
 
 pub balance-requires : goal.balance-requires
 balance-requires g t c =
+    let side = c.args.side in
     let s = c.shapes_of-s.ensures in
-    let more : c.shapes_of-s.result.first.height ≢ 1 = c.if-s-eq1.false in
-    let apart : beside c.shapes_of-s.result.first c.shapes_of-s.result.second ≡ false = sym c.if-fits_beside.ensures in
-    let h = hosts c.args.side c.args.fuel _ _ _ _ _ s.first s.second _ s.same _ _ s.touches more apart c.requires in
-    outer_two c.args.side c.args.fuel _ _ _ _ _ _ c.halve-n.ensures.halved c.halve-n.ensures.kept.long _ _ _ c.in-Some.ensures.kept.long _ c.in-Some.ensures.joins h
+    let h = c.halve-n.ensures in
+    let cut = rw s.same at h.halved in
+    let x = c.requires in
+    let o = host_view side x s.first s.second c.if-s-eq1.false in
+    let far = beside_is side x s.first s.second ∙ sym c.if-fits_beside.ensures in
+    outer_two side x o far cut c.in-Some.ensures.joins
 
 pub release-requires : goal.release-requires
 release-requires g t c =
+    let side = c.args.side in
     let s = c.shapes_of-s.ensures in
-    let more : c.shapes_of-s.result.first.height ≢ 1 = c.if-s-eq1.false in
-    let apart : beside c.shapes_of-s.result.first c.shapes_of-s.result.second ≡ false = sym c.if-fits_beside.ensures in
-    let h = hosts c.args.side c.args.fuel _ _ _ _ _ s.first s.second _ s.same _ _ s.touches more apart c.requires in
-    outer_holding c.args.side c.args.fuel _ _ _ _ _ _ c.halve-n.ensures.halved c.halve-n.ensures.kept.long _ _ _ c.in-None.ensures.kept.long c.in-None.ensures.joins h
+    let h = c.halve-n.ensures in
+    let cut = rw s.same at h.halved in
+    let x = c.requires in
+    let o = host_view side x s.first s.second c.if-s-eq1.false in
+    let far = beside_is side x s.first s.second ∙ sym c.if-fits_beside.ensures in
+    outer_holding side x o far cut c.in_default.ensures.joins
 
-pub returns-in-Some : goal.returns-in-Some
-returns-in-Some g t c =
+pub returns-in_default-clause-joins : goal.returns-in_default-clause-joins
+returns-in_default-clause-joins g t c =
+    let side = c.args.side in
     let s = c.shapes_of-s.ensures in
-    let row = g.W.Words.row in
-    let more : c.shapes_of-s.result.first.height ≢ 1 = c.if-s-eq1.false in
-    let apart : beside c.shapes_of-s.result.first c.shapes_of-s.result.second ≡ false = sym c.if-fits_beside.ensures in
-    let kept : Kept (row c.args.words.now) (row c.halve-n.new.words) = rw s.same at c.halve-n.ensures.kept in
+    let h = c.halve-n.ensures in
+    let cut = rw s.same at h.halved in
+    let long = rw s.same at h.kept.long in
+    let gone = c.release.ensures in
     record {
-      joins = attached_inside c.args.side c.args.fuel _ _ _ _ _ s.first s.second _ s.same _ _ s.touches more apart _ _ _
-          (attached_some c.args.side c.args.fuel _ _ _ _ _ _ c.halve-n.ensures.halved c.halve-n.ensures.kept.long _ _ _ c.in-Some.ensures.kept.long _ c.in-Some.ensures.joins
-          _ _ _ _ (omega (arith, s.touches, c.halve-n.ensures.touches)) c.balance.ensures.joins);
-      kept = kept_on _ _ _ kept (kept_on _ _ _ c.in-Some.ensures.kept c.balance.ensures.kept);
+      runs = λ x.
+          let o = host_view side x s.first s.second c.if-s-eq1.false in
+          let far = beside_is side x s.first s.second ∙ sym c.if-fits_beside.ensures in
+          attached_none side x o far cut c.in_default.ensures.joins _ gone.released gone.touches long (omega (arith, s.touches, h.touches));
     }
 
-pub returns-in-None : goal.returns-in-None
-returns-in-None g t c =
+pub returns-clause-joins : goal.returns-clause-joins
+returns-clause-joins g t c =
+    let side = c.args.side in
     let s = c.shapes_of-s.ensures in
-    let row = g.W.Words.row in
-    let more : c.shapes_of-s.result.first.height ≢ 1 = c.if-s-eq1.false in
-    let apart : beside c.shapes_of-s.result.first c.shapes_of-s.result.second ≡ false = sym c.if-fits_beside.ensures in
-    let kept : Kept (row c.args.words.now) (row c.halve-n.new.words) = rw s.same at c.halve-n.ensures.kept in
+    let h = c.halve-n.ensures in
+    let cut = rw s.same at h.halved in
+    let long = rw s.same at h.kept.long in
+    let inner = c.in-Some.ensures in
     record {
-      joins = attached_inside c.args.side c.args.fuel _ _ _ _ _ s.first s.second _ s.same _ _ s.touches more apart _ _ _
-          (attached_none c.args.side c.args.fuel _ _ _ _ _ _ c.halve-n.ensures.halved c.halve-n.ensures.kept.long _ _ _ c.in-None.ensures.kept.long c.in-None.ensures.joins
-          _ _ _ (omega (arith, s.touches, c.halve-n.ensures.touches)) c.release.ensures.released c.release.ensures.touches);
-      kept = kept_on _ _ _ kept (kept_on _ _ _ c.in-None.ensures.kept c.release.ensures.kept);
+      runs = λ x.
+          let o = host_view side x s.first s.second c.if-s-eq1.false in
+          let far = beside_is side x s.first s.second ∙ sym c.if-fits_beside.ensures in
+          attached_inside side x o far cut inner.joins _ c.balance.ensures.joins long (omega (arith, s.touches, h.touches)) inner.kept.long;
     }

@@ -1,6 +1,8 @@
-use Rattle.rope.proofs.Makings.{node_left}
+use Rattle.rope.proofs.Makings.{two_ordered, joins_on, fit_swap}
 use Rattle.rope.proofs.making.node_on.Goals as goal
 
-pub returns-in-Left : goal.returns-in-Left
-returns-in-Left g c =
-    record { joins = rw c.in-Left.is (node_left _ _ _ _ _ _ _ c.node-in-Left.ensures.joins); kept = c.node-in-Left.ensures.kept }
+pub node-requires : goal.node-requires
+node-requires g c = rw c.ordered.ensures (two_ordered c.args.side _ _ fit_swap c.requires)
+
+pub returns-clause-joins : goal.returns-clause-joins
+returns-clause-joins g c = joins_on c.args.side _ _ fit_swap (rw c.ordered.ensures at c.node.ensures.joins)

@@ -1,67 +1,41 @@
-use Rattle.std.proofs.Common.{◌≡◌, ◌+◌, ◌-◌, ◌≤◌, true, false, length, take, sym, ap, ◌∙◌, arith, length-append, rules}
-use Rattle.cells.specs.Steps.{Kept}
-use Rattle.cells.proofs.Sharings.{kept_on}
+use Rattle.std.proofs.Common.{◌≡◌, true, false, length, arith}
 use Rattle.rope.specs.Merging.{stays}
-use Rattle.rope.proofs.Merges.{both_few, merge_fit, merged_node, merge_making, merge_free, merged_spread}
+use Rattle.rope.proofs.Merges.{left_leaf, right_leaf, merge_free, merge_some, merged_node, merged_spread}
 use Rattle.rope.proofs.merging.merge.Goals as goal
 
-pub stay-requires : goal.stay-requires
-stay-requires g c = let f = both_few _ c.requires.u c.requires.v c.requires.fit (c.read_both-both.ensures.value c.requires) in omega (arith, f.0, f.1)
+pub read_leaf-a-requires : goal.read_leaf-a-requires
+read_leaf-a-requires g c = left_leaf c.requires
 
-pub node-requires : goal.node-requires
-node-requires g c =
-    let b = c.read_both-both.ensures in
-    let yes_stay : stays c.read_both-both.result.left c.read_both-both.result.right ≡ true = sym c.if-stay.ensures in
-    merge_fit _ _ _ _ b.value _ b.same _ _ b.touches yes_stay c.requires
+pub read_leaf-b-requires : goal.read_leaf-b-requires
+read_leaf-b-requires g c = rw c.read_leaf-a.ensures.same (right_leaf c.requires)
 
-pub returns-then-stay : goal.returns-then-stay
-returns-then-stay g c =
-    let b = c.read_both-both.ensures in
-    let row = g.W.Words.row in
-    let yes_stay : stays c.read_both-both.result.left c.read_both-both.result.right ≡ true = sym c.if-stay.ensures in
-    let kept : Kept (row c.args.words.now) (row c.node.new.words) = rw b.same at c.node.ensures.kept in
-    record { joins = merged_node _ _ _ _ b.value _ b.same _ _ b.touches yes_stay _ _ _ c.node.ensures.joins; kept = kept }
+pub returns-then-stay-clause-joins : goal.returns-then-stay-clause-joins
+returns-then-stay-clause-joins g c =
+    let a = c.read_leaf-a.ensures in
+    let b = c.read_leaf-b.ensures in
+    let stay : stays (length c.read_leaf-a.result.items) (length c.read_leaf-b.result.items) ≡ true = cc (c.len.ensures.value, c.len-2.ensures.value, c.if-stay.ensures) in
+    let is_b = rw a.same at b.value in
+    let last = rw (b.same, a.same) at c.node.ensures.joins in
+    record { runs = λ x. merged_node x a.value is_b _ stay last (omega (arith, a.touches, b.touches)) }
 
-pub release_both-requires : goal.release_both-requires
-release_both-requires g c =
-    let b = c.read_both-both.ensures in
-    let no_stay : stays c.read_both-both.result.left c.read_both-both.result.right ≡ false = sym c.if-stay.ensures in
-    merge_making _ _ _ _ b.value _ b.same _ _ b.touches no_stay c.requires
+pub spread-requires-clause-heap : goal.spread-requires-clause-heap
+spread-requires-clause-heap g c =
+    let gone = rw (c.read_leaf-b.ensures.same, c.read_leaf-a.ensures.same) at c.release_both.ensures.dropped in
+    merge_free c.requires gone
 
-pub overflow_add-both : goal.overflow_add-both
-overflow_add-both g c = let f = both_few _ c.requires.u c.requires.v c.requires.fit (c.read_both-both.ensures.value c.requires) in omega (arith, f.0, f.1)
+pub spread-requires-clause-some : goal.spread-requires-clause-some
+spread-requires-clause-some g c =
+    let is_b = rw c.read_leaf-a.ensures.same at c.read_leaf-b.ensures.value in
+    rw (c.deref.ensures.0, c.joined.ensures) (merge_some c.requires c.read_leaf-a.ensures.value is_b)
 
-pub slice_bounds-spread-end : goal.slice_bounds-spread-end
-slice_bounds-spread-end g c =
-    let f = both_few _ c.requires.u c.requires.v c.requires.fit (c.read_both-both.ensures.value c.requires) in
-    let le : c.read_both-both.result.left + c.read_both-both.result.right ≤ 96 = omega (arith, f.0, f.1) in
-    search rules
-
-pub spread-requires : goal.spread-requires
-spread-requires g c =
-    let b = c.read_both-both.ensures in
-    let no_stay : stays c.read_both-both.result.left c.read_both-both.result.right ≡ false = sym c.if-stay.ensures in
-    let a = b.value c.requires in
-    let f = both_few _ c.requires.u c.requires.v c.requires.fit a in
-    let s = c.read_both-both.result in
-    let n : (s.left + s.right) - 0 ≡ s.left + s.right = omega arith in
-    let long : length (take ((s.left + s.right) - 0) s.bytes) ≡ length a.xs + length a.ys = ap (λ z. length (take z s.bytes)) n ∙ (ap length a.all ∙ length-append a.xs a.ys) in
-    record {
-      heap = merge_free _ _ _ _ b.value _ b.same _ _ b.touches no_stay _ _ c.release_both.ensures.dropped c.release_both.ensures.touches c.release_both.ensures.kept.long c.requires;
-      few = omega (arith, long, a.left, a.right, f.0, f.1);
-      some = omega (arith, long, a.left, f.2);
-    }
-
-pub returns : goal.returns
-returns g c =
-    let b = c.read_both-both.ensures in
-    let row = g.W.Words.row in
-    let no_stay : stays c.read_both-both.result.left c.read_both-both.result.right ≡ false = sym c.if-stay.ensures in
-    let kept : Kept (row c.args.words.now) (row c.release_both.new.words) = rw b.same at c.release_both.ensures.kept in
-    let s = c.read_both-both.result in
-    let n : (s.left + s.right) - 0 ≡ s.left + s.right = omega arith in
-    record {
-      joins = merged_spread _ _ _ _ b.value _ b.same _ _ b.touches no_stay _ _ c.release_both.ensures.dropped c.release_both.ensures.touches c.release_both.ensures.kept.long
-          _ _ _ _ (ap (λ z. take z s.bytes) n) c.spread.ensures.spreads;
-      kept = kept_on _ _ _ kept c.spread.ensures.kept;
-    }
+pub returns-clause-joins : goal.returns-clause-joins
+returns-clause-joins g c =
+    let a = c.read_leaf-a.ensures in
+    let b = c.read_leaf-b.ensures in
+    let r = c.release_both.ensures in
+    let go : stays (length c.read_leaf-a.result.items) (length c.read_leaf-b.result.items) ≡ false = cc (c.len.ensures.value, c.len-2.ensures.value, c.if-stay.ensures) in
+    let is_b = rw a.same at b.value in
+    let gone = rw (b.same, a.same) at r.dropped in
+    let long = rw (b.same, a.same) at r.kept.long in
+    let last = rw (c.deref.ensures.0, c.joined.ensures) at c.spread.ensures.spreads in
+    record { runs = λ x. merged_spread x a.value is_b _ go gone last long (omega (arith, a.touches, b.touches, r.touches)) }

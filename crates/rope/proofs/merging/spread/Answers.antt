@@ -1,35 +1,21 @@
-use Rattle.std.proofs.Common.{arith}
-use Rattle.cells.proofs.Sharings.{kept_on}
-use Rattle.rope.proofs.Merges.{spread_one, free_second, spread_couple, spread_two}
+use Rattle.rope.proofs.Merges.{spread_one, spread_fit, spread_none, spread_two, spread_node}
 use Rattle.rope.proofs.merging.spread.Goals as goal
 
-pub leaf-requires : goal.leaf-requires
-leaf-requires g c = record { heap = record { rest = c.requires.heap.rest; have = c.requires.heap.have; few = omega (arith, c.requires.heap.few) }; fits = c.if-bytes-le-LEAF_MAX.true }
+pub returns-then-bytes-le-LEAF_MAX-clause-spreads : goal.returns-then-bytes-le-LEAF_MAX-clause-spreads
+returns-then-bytes-le-LEAF_MAX-clause-spreads g c = spread_one c.if-bytes-le-LEAF_MAX.true c.leaf.ensures.leafed
 
-pub returns-then-bytes-le-LEAF_MAX : goal.returns-then-bytes-le-LEAF_MAX
-returns-then-bytes-le-LEAF_MAX g c =
-    record { spreads = spread_one _ _ _ _ _ _ c.if-bytes-le-LEAF_MAX.true c.leaf.ensures.leafed; kept = c.leaf.ensures.kept }
+pub returns-in_err-halves-clause-spreads : goal.returns-in_err-halves-clause-spreads
+returns-in_err-halves-clause-spreads g c = rw c.from_residual.ensures (spread_none c.in_err-halves.ensures.leaves)
 
-pub leaf-x-requires : goal.leaf-x-requires
-leaf-x-requires g c =
-    record { heap = record { rest = c.requires.heap.rest; have = c.requires.heap.have; few = omega (arith, c.requires.heap.few) }; fits = omega (arith, c.requires.few, c.split_at.ensures.front_len) }
+pub node-requires : goal.node-requires
+node-requires g c =
+    let s = c.split_at.ensures in
+    let made = c.in_ok-halves.ensures in
+    spread_two made.leaves (spread_fit c.args.bytes.now c.if-bytes-le-LEAF_MAX.false c.requires.few s.front s.back made.octets) c.requires.heap
 
-pub leaf-y-requires : goal.leaf-y-requires
-leaf-y-requires g c =
-    record {
-      heap = free_second _ _ c.args.bytes.now _ _ _ _ _ c.if-bytes-le-LEAF_MAX.false c.requires.few c.split_at.ensures.front c.split_at.ensures.back c.leaf-x.ensures.octets c.leaf-x.ensures.leafed c.leaf-x.ensures.kept.long c.requires.heap;
-      fits = omega (arith, c.requires.few, c.split_at.ensures.back_len);
-    }
-
-pub both_on-requires : goal.both_on-requires
-both_on-requires g c =
-    spread_couple _ _ c.args.bytes.now _ _ _ _ _ c.if-bytes-le-LEAF_MAX.false c.requires.few c.split_at.ensures.front c.split_at.ensures.back c.leaf-x.ensures.octets c.leaf-x.ensures.leafed c.leaf-x.ensures.kept.long
-    _ _ _ c.leaf-y.ensures.octets c.leaf-y.ensures.leafed c.leaf-y.ensures.kept.long c.requires.heap
-
-pub returns : goal.returns
-returns g c =
-    record {
-      spreads = spread_two _ _ c.args.bytes.now _ _ _ _ _ c.if-bytes-le-LEAF_MAX.false c.requires.few c.split_at.ensures.front c.split_at.ensures.back c.leaf-x.ensures.octets c.leaf-x.ensures.leafed c.leaf-x.ensures.kept.long
-          _ _ _ c.leaf-y.ensures.octets c.leaf-y.ensures.leafed c.leaf-y.ensures.kept.long _ _ _ c.both_on.ensures.couples;
-      kept = kept_on _ _ _ c.leaf-x.ensures.kept (kept_on _ _ _ c.leaf-y.ensures.kept c.both_on.ensures.kept);
-    }
+pub returns-clause-spreads : goal.returns-clause-spreads
+returns-clause-spreads g c =
+    let s = c.split_at.ensures in
+    let more = c.if-bytes-le-LEAF_MAX.false in
+    let made = c.in_ok-halves.ensures in
+    spread_node made.leaves (spread_fit c.args.bytes.now more c.requires.few s.front s.back made.octets) more s.front s.back c.node.ensures.joins made.kept.long
