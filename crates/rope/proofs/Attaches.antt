@@ -42,7 +42,7 @@ merged_low Right u v f = merge_low u v f
 merged_low Left u v f = merge_low v u (leaves_swap u v f)
 
 -- a host, and a guest that is not higher
-module _ (side : Side) {fuel : ℕ} {m : List ℕ} {l r : ℕ} (x : Two (Onto fuel) m l r (fuel + 32)) where
+module _ (side : Side) {levels : ℕ} {m : List ℕ} {l r : ℕ} (x : Two (Onto levels) m l r (levels + 32)) where
   abbrev pub host_some : LendsSome m l
   host_some = lends_some m l x.u _ x.fit.fit.left (omega (arith, x.fit.fit.few)) x.fit.fit.some_left x.have
 
@@ -86,8 +86,8 @@ module _ (side : Side) {fuel : ℕ} {m : List ℕ} {l r : ℕ} (x : Two (Onto fu
     pub host_opening : Opening m l
     host_opening = view_opening side o x.have (omega (arith, x.few))
 
-    pub host_fuel : 1 ≤ fuel
-    host_fuel = omega (arith, x.fit.deep, o.high)
+    pub host_levels : 1 ≤ levels
+    host_levels = omega (arith, x.fit.deep, o.high)
 
     -- the guest does not fit beside it
     module _ (far : fits_beside (height x.u) x.v ≡ false) where
@@ -109,10 +109,10 @@ module _ (side : Side) {fuel : ℕ} {m : List ℕ} {l r : ℕ} (x : Two (Onto fu
           (omega (arith, k.low, k.high, r, s, e), omega (arith, k.low, k.high, r, s, e))
 
       module _ {m1 : List ℕ} {p q : ℕ} (cut : Halved side m m1 l p q) where
-        abbrev pub inner_two : Two (Onto (fuel - 1)) m1 q r ((fuel - 1) + 32)
+        abbrev pub inner_two : Two (Onto (levels - 1)) m1 q r ((levels - 1) + 32)
         inner_two =
             let l = o.level x.fit.fit.left in
-            let some = host_fuel in
+            let some = host_levels in
             record {
               u = o.second;
               v = x.v;
@@ -133,7 +133,7 @@ module _ (side : Side) {fuel : ℕ} {m : List ℕ} {l r : ℕ} (x : Two (Onto fu
             }
 
         module _ {m2 : List ℕ} {n1 n2 : ℕ} where
-          module _ {d : Ref} (inner : Joins (Onto (fuel - 1)) (attach side) (attach_price side) 1 m1 m2 q r ((fuel - 1) + 32) (Some d) n1 n2) where
+          module _ {d : Ref} (inner : Joins (Onto (levels - 1)) (attach side) (attach_price side) 1 m1 m2 q r ((levels - 1) + 32) (Some d) n1 n2) where
             abbrev pub outer_two : Two Near m2 p d.0 16
             outer_two =
                 let l = o.level x.fit.fit.left in
@@ -159,7 +159,7 @@ module _ (side : Side) {fuel : ℕ} {m : List ℕ} {l r : ℕ} (x : Two (Onto fu
                 after_by (last.runs outer_two) (omega arith) (attach_inside side o x.v far) (omega (arith, cells_attach side o.second x.v, o.count)) (omega (arith, (inner.runs inner_two).cost, price_down.0))
 
           -- no room
-          module _ (inner : Joins (Onto (fuel - 1)) (attach side) (attach_price side) 1 m1 m2 q r ((fuel - 1) + 32) None n1 n2) where
+          module _ (inner : Joins (Onto (levels - 1)) (attach side) (attach_price side) 1 m1 m2 q r ((levels - 1) + 32) None n1 n2) where
             pub outer_holding : Holding m2 p
             outer_holding = record { tree = code o.first; rest = x.rest; have = (inner.runs inner_two).have }
 

@@ -108,11 +108,11 @@ spread b = cond (nat_le (length b) leaf_max) (leaf b) (node_of (leaf (take (leng
 pub record Spreads (m m' : List ℕ) (b : List ℕ) (d : Option Ref) (before after : ℕ) : Type 0 where
   pub runs : (x : Free m 2) → After m m' d (spread b) x.rest (all_nodes x.rest + 2) after (before + 99)
 
--- the guest, which is not higher, is to go onto the host, whose height is at most fuel
-pub record Onto (fuel : ℕ) (host guest : Rope) : Type 0 where
+-- the guest, which is not higher, is to go onto the host, whose height is at most levels
+pub record Onto (levels : ℕ) (host guest : Rope) : Type 0 where
   pub fit : Fit host guest
   pub lower : height guest ≤ height host
-  pub deep : height host ≤ fuel
+  pub deep : height host ≤ levels
 
 -- A rotation costs 98, and is done only where the host doesn't become higher.
 abbrev pub attach_price : Side → Rope → Rope → ℕ

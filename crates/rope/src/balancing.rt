@@ -17,12 +17,12 @@ fn rotate_double<W: Words>(words: &mut W, side: Side, a: Ref, b: Ref, c: Ref) ->
     ensures doubles { Doubles side (W.Words.row words.old) (W.Words.row words.new) a.0 b.0 c.0 result (W.touched words.old) (W.touched words.new) }
     ensures kept { Kept (W.Words.row words.old) (W.Words.row words.new) }
 {
-    let n = halve(words, side, b);
-    let Some(x) = node_on(words, side, a, n.first) else {
-        release_both(words, n.second, c);
+    let (first, second) = halve(words, side, b);
+    let Some(x) = node_on(words, side, a, first) else {
+        release_both(words, second, c);
         return None;
     };
-    let Some(y) = node_on(words, side, n.second, c) else {
+    let Some(y) = node_on(words, side, second, c) else {
         release(words, x);
         return None;
     };
@@ -35,16 +35,16 @@ fn rotate<W: Words>(words: &mut W, side: Side, a: Ref, b: Ref) -> Option<Ref>
     ensures joins { Joins Leaning (rotate_on side) (λ _ _. 135) 1 (W.Words.row words.old) (W.Words.row words.new) a.0 b.0 16 result (W.touched words.old) (W.touched words.new) }
     ensures kept { Kept (W.Words.row words.old) (W.Words.row words.new) }
 {
-    let n = halve(words, side, b);
-    let s = shapes_of(words, n.first, n.second);
+    let (first, second) = halve(words, side, b);
+    let s = shapes_of(words, first, second);
     if s.first.height > s.second.height {
-        return rotate_double(words, side, a, n.first, n.second);
+        return rotate_double(words, side, a, first, second);
     }
-    let Some(x) = node_on(words, side, a, n.first) else {
-        release(words, n.second);
+    let Some(x) = node_on(words, side, a, first) else {
+        release(words, second);
         return None;
     };
-    node_on(words, side, x, n.second)
+    node_on(words, side, x, second)
 }
 
 /// A node of two parts, of which the second may be too high, or what it is rotated to.

@@ -5,9 +5,7 @@ ghost use Rattle.rope.specs.Cutting.{One, Sized, Short, cut_price, Cuts, Splits,
 
 use crate::joining::concat;
 use crate::making::leaves;
-use crate::parting::halve;
-use crate::sided::Side;
-use cells::{NONE, Ref, release};
+use cells::{NONE, Ref, part, release};
 use rope_cells::{Bytes, left_sum, len, read_leaf, shape_of};
 use words::Words;
 
@@ -65,23 +63,23 @@ fn split_sized<W: Words>(words: &mut W, t: Ref, size: u32, at: u32) -> Option<Cu
         return split_leaf(words, t, at as usize);
     }
     let middle = left_sum::<Bytes, W>(words, t);
-    let n = halve(words, Side::Right, t);
+    let children = part(words, t);
     if at < middle {
-        let Some(cut) = split_sized(words, n.first, middle, at) else {
-            release(words, n.second);
+        let Some(cut) = split_sized(words, children.left, middle, at) else {
+            release(words, children.right);
             return None;
         };
-        let back = concat_beside(words, cut.back, n.second, cut.front)?;
+        let back = concat_beside(words, cut.back, children.right, cut.front)?;
         Some(Cut {
             front: cut.front,
             back,
         })
     } else {
-        let Some(cut) = split_sized(words, n.second, size - middle, at - middle) else {
-            release(words, n.first);
+        let Some(cut) = split_sized(words, children.right, size - middle, at - middle) else {
+            release(words, children.left);
             return None;
         };
-        let front = concat_beside(words, n.first, cut.front, cut.back)?;
+        let front = concat_beside(words, children.left, cut.front, cut.back)?;
         Some(Cut {
             front,
             back: cut.back,

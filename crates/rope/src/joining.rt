@@ -33,10 +33,10 @@ fn fits_beside(a: Shape, b: Shape) -> bool
     a.height <= b.height + 1 && !b.small
 }
 
-/// The guest, which is not higher, onto this side of the host, whose height is at most `fuel`.
-fn attach<W: Words>(words: &mut W, side: Side, host: Ref, guest: Ref, fuel: u32) -> Option<Ref>
-    requires { Two (Onto fuel) (W.Words.row words.old) host.0 guest.0 (fuel + 32) }
-    ensures joins { Joins (Onto fuel) (attached side) (attach_price side) 1 (W.Words.row words.old) (W.Words.row words.new) host.0 guest.0 (fuel + 32) result (W.touched words.old) (W.touched words.new) }
+/// The guest, which is not higher, onto this side of the host, whose height is at most `levels`.
+fn attach<W: Words>(words: &mut W, side: Side, host: Ref, guest: Ref, levels: u32) -> Option<Ref>
+    requires { Two (Onto levels) (W.Words.row words.old) host.0 guest.0 (levels + 32) }
+    ensures joins { Joins (Onto levels) (attached side) (attach_price side) 1 (W.Words.row words.old) (W.Words.row words.new) host.0 guest.0 (levels + 32) result (W.touched words.old) (W.touched words.new) }
     ensures kept { Kept (W.Words.row words.old) (W.Words.row words.new) }
 {
     let s = shapes_of(words, host, guest);
@@ -46,12 +46,12 @@ fn attach<W: Words>(words: &mut W, side: Side, host: Ref, guest: Ref, fuel: u32)
     if fits_beside(s.first, s.second) {
         return node_on(words, side, host, guest);
     }
-    let n = halve(words, side, host);
-    let Some(inner) = attach(words, side, n.second, guest, fuel - 1) else {
-        release(words, n.first);
+    let (first, second) = halve(words, side, host);
+    let Some(inner) = attach(words, side, second, guest, levels - 1) else {
+        release(words, first);
         return None;
     };
-    balance(words, side, n.first, inner)
+    balance(words, side, first, inner)
 }
 
 /// The bytes of one rope and then those of the other, as a rope.

@@ -7,21 +7,13 @@ use crate::sided::Side;
 use cells::{Ref, part};
 use words::Words;
 
-/// The children of a node, the second on the side in question.
-#[derive(Clone, Copy)]
-pub struct Halves {
-    pub first: Ref,
-    pub second: Ref,
-}
-
-/// Lets the node `p` go for its children.
-pub fn halve<W: Words>(words: &mut W, side: Side, p: Ref) -> Halves
+/// Lets the node `p` go for its children, the second the one on this side.
+pub fn halve<W: Words>(words: &mut W, side: Side, p: Ref) -> (Ref, Ref)
     requires { Opening (W.Words.row words.old) p.0 }
-    ensures halved { Halved side (W.Words.row words.old) (W.Words.row words.new) p.0 result.first.0 result.second.0 }
+    ensures halved { Halved side (W.Words.row words.old) (W.Words.row words.new) p.0 result.0.0 result.1.0 }
     ensures kept { Kept (W.Words.row words.old) (W.Words.row words.new) }
     ensures touches { W.touched words.new ≤ W.touched words.old + 11 }
 {
     let children = part(words, p);
-    let (first, second) = side.ordered(children.left, children.right);
-    Halves { first, second }
+    side.ordered(children.left, children.right)
 }

@@ -1,8 +1,10 @@
 use Rattle.std.proofs.Common.{◌<◌, ◌≤◌, ℕ, Some, None, refl, arith}
 use Rattle.rope.proofs.Cuttings.{after_cut_by}
 use Rattle.rope.proofs.Splits.{cuts_zero, cuts_all, sized_some, sized_lends, sized_leaf, sized_view, sized_children, sized_opening, sized_middle, Inside, middle_bounds, left_one, left_beside, left_joined, left_holding, left_none, right_one, right_beside, right_joined, right_holding, right_none}
+use Rattle.rope.specs.declared.sided.Side.TheVariants.{Right}
+use Rattle.rope.proofs.Partings.{halved_on}
 use Rattle.rope.proofs.cutting.+split_sized.Given.{Over}
-use Rattle.rope.proofs.cutting.+split_sized.Goals.{After-halve-n}
+use Rattle.rope.proofs.cutting.+split_sized.Goals.{After-part-children}
 use Rattle.rope.proofs.cutting.+split_sized.Goals as goal
 
 pub returns-then-at-eq0-clause-cuts : goal.returns-then-at-eq0-clause-cuts
@@ -33,91 +35,91 @@ left_sum-middle-requires g t c =
     let sh = c.shape_of.ensures in
     rw sh.same (sized_children c.requires (sized_view c.requires c.args.at (omega arith) (omega arith) sh.value c.if-shape_of-eq1.false))
 
-pub halve-n-requires : goal.halve-n-requires
-halve-n-requires g t c =
+pub part-children-requires : goal.part-children-requires
+part-children-requires g t c =
     let sh = c.shape_of.ensures in
     rw (c.left_sum-middle.ensures.same, sh.same) (sized_opening c.requires (sized_view c.requires c.args.at (omega arith) (omega arith) sh.value c.if-shape_of-eq1.false))
 
 -- what is known of the children
-inside : (g : Over) (t : ℕ) (c : After-halve-n g t)
-    → Inside c.args.size c.args.at c.left_sum-middle.result (g.W.Words.row c.args.words.now) (g.W.Words.row c.halve-n.new.words) c.args.t.0 c.halve-n.result.first.0 c.halve-n.result.second.0 (g.W.Words.touched c.args.words.now) (g.W.Words.touched c.halve-n.new.words)
+inside : (g : Over) (t : ℕ) (c : After-part-children g t)
+    → Inside c.args.size c.args.at c.left_sum-middle.result (g.W.Words.row c.args.words.now) (g.W.Words.row c.part-children.new.words) c.args.t.0 c.part-children.result.left.0 c.part-children.result.right.0 (g.W.Words.touched c.args.words.now) (g.W.Words.touched c.part-children.new.words)
 inside g t c =
     let sh = c.shape_of.ensures in
     let mid = c.left_sum-middle.ensures in
-    let h = c.halve-n.ensures in
+    let h = c.part-children.ensures in
     let at = c.args.at in
     let some : 1 ≤ at = omega arith in
     let inside : at < c.args.size = omega arith in
     let is_k = rw sh.same at mid.value in
-    let cut = rw (mid.same, sh.same) at h.halved in
+    let cut = rw (mid.same, sh.same) at h.parted in
     let long = rw (mid.same, sh.same) at h.kept.long in
     record {
       some = some;
       inside = inside;
       view = λ x. sized_view x at some inside sh.value c.if-shape_of-eq1.false;
       middle = λ x. sized_middle x (sized_view x at some inside sh.value c.if-shape_of-eq1.false) is_k;
-      cut = cut;
+      cut = halved_on Right _ _ cut;
       long = long;
       cost = omega (arith, sh.touches, mid.touches, h.touches);
     }
 
 pub split_sized-requires : goal.split_sized-requires
 split_sized-requires g t c κs within =
-    let i = inside g t (goal.at.split_sized-requires g t c).After-halve-n in
+    let i = inside g t (goal.at.split_sized-requires g t c).After-part-children in
     (omega (arith, (middle_bounds i c.requires).1, c.decreases), (within, left_one i c.requires c.if-at-middle.true))
 
 pub release-requires : goal.release-requires
-release-requires g t c = left_holding (inside g t (goal.at.release-requires g t c).After-halve-n) c.requires c.if-at-middle.true c.in_default.ensures.cuts
+release-requires g t c = left_holding (inside g t (goal.at.release-requires g t c).After-part-children) c.requires c.if-at-middle.true c.in_default.ensures.cuts
 
 pub returns-in_default-clause-cuts : goal.returns-in_default-clause-cuts
 returns-in_default-clause-cuts g t c =
-    let i = inside g t (goal.at.returns-in_default-clause-cuts g t c).After-halve-n in
+    let i = inside g t (goal.at.returns-in_default-clause-cuts g t c).After-part-children in
     let gone = c.release.ensures in
     record { runs = λ x. left_none i x c.if-at-middle.true c.in_default.ensures.cuts gone.released gone.touches }
 
 pub concat_beside-requires : goal.concat_beside-requires
-concat_beside-requires g t c = left_beside (inside g t (goal.at.concat_beside-requires g t c).After-halve-n) c.requires c.if-at-middle.true c.in-Some.ensures.cuts
+concat_beside-requires g t c = left_beside (inside g t (goal.at.concat_beside-requires g t c).After-part-children) c.requires c.if-at-middle.true c.in-Some.ensures.cuts
 
 pub returns-in_err-back-clause-cuts : goal.returns-in_err-back-clause-cuts
 returns-in_err-back-clause-cuts g t c =
-    let i = inside g t (goal.at.returns-in_err-back-clause-cuts g t c).After-halve-n in
+    let i = inside g t (goal.at.returns-in_err-back-clause-cuts g t c).After-part-children in
     let one = c.in-Some.ensures in
     rw c.from_residual.ensures (record { runs = λ x. left_joined i x c.if-at-middle.true one.cuts None c.in_err-back.ensures.joins one.kept.long })
 
 pub returns-in_ok-back-clause-cuts : goal.returns-in_ok-back-clause-cuts
 returns-in_ok-back-clause-cuts g t c =
-    let i = inside g t (goal.at.returns-in_ok-back-clause-cuts g t c).After-halve-n in
+    let i = inside g t (goal.at.returns-in_ok-back-clause-cuts g t c).After-part-children in
     let one = c.in-Some.ensures in
     record { runs = λ x. left_joined i x c.if-at-middle.true one.cuts (Some c.in_ok-back.back) c.in_ok-back.ensures.joins one.kept.long }
 
 pub split_sized-requires-else-at-middle : goal.split_sized-requires-else-at-middle
 split_sized-requires-else-at-middle g t c κs within =
-    let i = inside g t (goal.at.split_sized-requires-else-at-middle g t c).After-halve-n in
+    let i = inside g t (goal.at.split_sized-requires-else-at-middle g t c).After-part-children in
     let b = middle_bounds i c.requires in
     (omega (arith, b.0, b.1, c.decreases), (within, right_one i c.requires c.if-at-middle.false))
 
 pub release-requires-in_default-split_sized : goal.release-requires-in_default-split_sized
 release-requires-in_default-split_sized g t c =
-    right_holding (inside g t (goal.at.release-requires-in_default-split_sized g t c).After-halve-n) c.requires c.if-at-middle.false c.in_default-split_sized.ensures.cuts
+    right_holding (inside g t (goal.at.release-requires-in_default-split_sized g t c).After-part-children) c.requires c.if-at-middle.false c.in_default-split_sized.ensures.cuts
 
 pub returns-in_default-split_sized-clause-cuts : goal.returns-in_default-split_sized-clause-cuts
 returns-in_default-split_sized-clause-cuts g t c =
-    let i = inside g t (goal.at.returns-in_default-split_sized-clause-cuts g t c).After-halve-n in
+    let i = inside g t (goal.at.returns-in_default-split_sized-clause-cuts g t c).After-part-children in
     let gone = c.release-in_default-split_sized.ensures in
     record { runs = λ x. right_none i x c.if-at-middle.false c.in_default-split_sized.ensures.cuts gone.released gone.touches }
 
 pub concat_beside-requires-else-at-middle : goal.concat_beside-requires-else-at-middle
 concat_beside-requires-else-at-middle g t c =
-    right_beside (inside g t (goal.at.concat_beside-requires-else-at-middle g t c).After-halve-n) c.requires c.if-at-middle.false c.in-Some-split_sized.ensures.cuts
+    right_beside (inside g t (goal.at.concat_beside-requires-else-at-middle g t c).After-part-children) c.requires c.if-at-middle.false c.in-Some-split_sized.ensures.cuts
 
 pub returns-in_err-front-clause-cuts : goal.returns-in_err-front-clause-cuts
 returns-in_err-front-clause-cuts g t c =
-    let i = inside g t (goal.at.returns-in_err-front-clause-cuts g t c).After-halve-n in
+    let i = inside g t (goal.at.returns-in_err-front-clause-cuts g t c).After-part-children in
     let one = c.in-Some-split_sized.ensures in
     rw c.from_residual-in_err-front.ensures (record { runs = λ x. right_joined i x c.if-at-middle.false one.cuts None c.in_err-front.ensures.joins one.kept.long })
 
 pub returns-in_ok-front-clause-cuts : goal.returns-in_ok-front-clause-cuts
 returns-in_ok-front-clause-cuts g t c =
-    let i = inside g t (goal.at.returns-in_ok-front-clause-cuts g t c).After-halve-n in
+    let i = inside g t (goal.at.returns-in_ok-front-clause-cuts g t c).After-part-children in
     let one = c.in-Some-split_sized.ensures in
     record { runs = λ x. right_joined i x c.if-at-middle.false one.cuts (Some c.in_ok-front.front) c.in_ok-front.ensures.joins one.kept.long }

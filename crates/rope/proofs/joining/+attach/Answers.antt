@@ -1,5 +1,5 @@
 use Rattle.std.proofs.Common.{sym, ◌∙◌, arith}
-use Rattle.rope.proofs.Attaches.{host_some, guest_some, guest_low, onto_node, onto_leaves, attached_leaf, attached_node, host_opening, host_fuel, inner_two, outer_two, attached_inside, outer_holding, attached_none, host_one, host_view, beside_is}
+use Rattle.rope.proofs.Attaches.{host_some, guest_some, guest_low, onto_node, onto_leaves, attached_leaf, attached_node, host_opening, host_levels, inner_two, outer_two, attached_inside, outer_holding, attached_none, host_one, host_view, beside_is}
 use Rattle.rope.proofs.joining.+attach.Goals as goal
 
 pub shapes_of-s-requires-clause-first : goal.shapes_of-s-requires-clause-first
@@ -32,33 +32,33 @@ returns-then-fits_beside-clause-joins g t c =
     let side = c.args.side in
     record { runs = λ x. attached_node side x (host_view side x s.first s.second c.if-s-eq1.false) _ (beside_is side x s.first s.second ∙ sym c.if-fits_beside.ensures) last s.touches }
 
-pub halve-n-requires : goal.halve-n-requires
-halve-n-requires g t c =
+pub halve-requires : goal.halve-requires
+halve-requires g t c =
     let s = c.shapes_of-s.ensures in
     rw s.same (host_opening c.args.side c.requires (host_view c.args.side c.requires s.first s.second c.if-s-eq1.false))
 
-pub overflow_sub-fuel : goal.overflow_sub-fuel
-overflow_sub-fuel g t c =
+pub overflow_sub-levels : goal.overflow_sub-levels
+overflow_sub-levels g t c =
     let s = c.shapes_of-s.ensures in
-    host_fuel c.args.side c.requires (host_view c.args.side c.requires s.first s.second c.if-s-eq1.false)
+    host_levels c.args.side c.requires (host_view c.args.side c.requires s.first s.second c.if-s-eq1.false)
 
 pub attach-requires : goal.attach-requires
 attach-requires g t c κs within =
     let side = c.args.side in
     let s = c.shapes_of-s.ensures in
-    let h = c.halve-n.ensures in
+    let h = c.halve.ensures in
     let cut = rw s.same at h.halved in
     let x = c.requires in
     let o = host_view side x s.first s.second c.if-s-eq1.false in
     let far = beside_is side x s.first s.second ∙ sym c.if-fits_beside.ensures in
-    let some = host_fuel side x o in
+    let some = host_levels side x o in
     (omega (arith, c.decreases), (within, inner_two side x o far cut))
 
 pub balance-requires : goal.balance-requires
 balance-requires g t c =
     let side = c.args.side in
     let s = c.shapes_of-s.ensures in
-    let h = c.halve-n.ensures in
+    let h = c.halve.ensures in
     let cut = rw s.same at h.halved in
     let x = c.requires in
     let o = host_view side x s.first s.second c.if-s-eq1.false in
@@ -69,7 +69,7 @@ pub release-requires : goal.release-requires
 release-requires g t c =
     let side = c.args.side in
     let s = c.shapes_of-s.ensures in
-    let h = c.halve-n.ensures in
+    let h = c.halve.ensures in
     let cut = rw s.same at h.halved in
     let x = c.requires in
     let o = host_view side x s.first s.second c.if-s-eq1.false in
@@ -80,7 +80,7 @@ pub returns-in_default-clause-joins : goal.returns-in_default-clause-joins
 returns-in_default-clause-joins g t c =
     let side = c.args.side in
     let s = c.shapes_of-s.ensures in
-    let h = c.halve-n.ensures in
+    let h = c.halve.ensures in
     let cut = rw s.same at h.halved in
     let long = rw s.same at h.kept.long in
     let gone = c.release.ensures in
@@ -95,7 +95,7 @@ pub returns-clause-joins : goal.returns-clause-joins
 returns-clause-joins g t c =
     let side = c.args.side in
     let s = c.shapes_of-s.ensures in
-    let h = c.halve-n.ensures in
+    let h = c.halve.ensures in
     let cut = rw s.same at h.halved in
     let long = rw s.same at h.kept.long in
     let inner = c.in-Some.ensures in

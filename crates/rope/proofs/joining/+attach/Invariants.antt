@@ -1,4 +1,4 @@
 use Rattle.rope.proofs.joining.+attach.Given as goal
 
 abbrev pub decreases-attach : goal.decreases-attach
-decreases-attach g l = l.fuel
+decreases-attach g l = l.levels
