@@ -2,7 +2,7 @@
 use Rattle.std.proofs.Common.{◌≡◌, ℕ, ◌+◌, ◌-◌, ◌*◌, ◌<◌, ◌≤◌, true, false, List, ◌∷◌, length, Some, None, Option, ◌≢◌, sym, refl, ap, ◌∙◌, ⊎_elim, arith}
 use Rattle.cells.specs.declared.cell.Ref.{Ref}
 use Rattle.cells.specs.Have.{item, all_nodes}
-use Rattle.cells.specs.Steps.{Opening, Holding, Released}
+use Rattle.cells.specs.Steps.{Opening, Released}
 use Rattle.ropes.specs.Rope.{Rope, leaf, height, cells, Whole}
 use Rattle.ropes.specs.Join.{fits_beside, merge}
 use Rattle.ropes.specs.Costs.{steps}
@@ -17,8 +17,8 @@ use Rattle.rope_cells.specs.Lending.{LendsSome, ShapeIs, beside}
 use Rattle.rope.specs.Sided.{node_on, merge_on, balance_on, rotations_on, attach}
 use Rattle.rope.specs.Building.{After, Two, Joins, Fit, Halved, Near, TwoLeaves, Onto, attach_price}
 use Rattle.rope_cells.proofs.Codes.{nodes_code}
-use Rattle.rope.proofs.Holds.{swap_have, back_have, lends_some, after_by, after_release}
-use Rattle.rope.proofs.Makings.{fit_swap}
+use Rattle.rope.proofs.Holds.{swap_have, back_have, after_by, after_release}
+use Rattle.rope.proofs.Makings.{fit_swap, first_some, second_some, as_fit}
 use Rattle.rope.proofs.Merges.{leaf_view}
 use Rattle.rope.proofs.Partings.{view_opening, view_halves}
 use Rattle.rope.proofs.Sides.{View, view, height_on, attach_leaf, attach_beside, attach_inside, attach_fits, cells_attach, size_attach, attach_rotations, attach_steps}
@@ -43,17 +43,8 @@ merged_low Left u v f = merge_low v u (leaves_swap u v f)
 
 -- a host, and a guest that is not higher
 module _ (side : Side) {levels : ℕ} {m : List ℕ} {l r : ℕ} (x : Two (Onto levels) m l r (levels + 32)) where
-  abbrev pub host_some : LendsSome m l
-  host_some = lends_some m l x.u _ x.fit.fit.left (omega (arith, x.fit.fit.few)) x.fit.fit.some_left x.have
-
-  abbrev pub guest_some : LendsSome m r
-  guest_some = lends_some m r x.v _ x.fit.fit.right (omega (arith, x.fit.fit.few)) x.fit.fit.some_right (swap_have m _ _ _ x.have)
-
   pub guest_low : height x.v < 36
   guest_low = height_low x.v x.fit.fit.right (omega (arith, x.fit.fit.few))
-
-  abbrev pub onto_node : Two Fit m l r 0
-  onto_node = record { u = x.u; v = x.v; rest = x.rest; fit = x.fit.fit; have = x.have; few = omega (arith, x.few) }
 
   -- the host is a leaf
   module _ (one : height x.u ≡ 1) where
@@ -81,7 +72,7 @@ module _ (side : Side) {levels : ℕ} {m : List ℕ} {l r : ℕ} (x : Two (Onto 
         → After m m2 d (attach side x.u x.v) x.rest (cells x.u + cells x.v + all_nodes x.rest + 1) n2 (n + attach_price side x.u x.v)
     attached_node n near last reads =
         let is = attach_beside side o x.v near in
-        after_by (last.runs onto_node) refl is (omega arith) (omega (arith, ap height is, height_on side x.u x.v, x.fit.lower))
+        after_by (last.runs (as_fit x x.fit.fit)) refl is (omega arith) (omega (arith, ap height is, height_on side x.u x.v, x.fit.lower))
 
     pub host_opening : Opening m l
     host_opening = view_opening side o x.have (omega (arith, x.few))
@@ -160,9 +151,6 @@ module _ (side : Side) {levels : ℕ} {m : List ℕ} {l r : ℕ} (x : Two (Onto 
 
           -- no room
           module _ (inner : Joins (Onto (levels - 1)) (attach side) (attach_price side) 1 m1 m2 q r ((levels - 1) + 32) None n1 n2) where
-            pub outer_holding : Holding m2 p
-            outer_holding = record { tree = code o.first; rest = x.rest; have = (inner.runs inner_two).have }
-
             pub attached_none : {m3 : List ℕ} {n3 : ℕ} (n : ℕ) → Released m2 m3 p → n3 ≤ n2 + 5 → length m1 ≡ length m → n1 ≤ n + 13
                 → After m m3 None (attach side x.u x.v) x.rest (cells x.u + cells x.v + all_nodes x.rest + 1) n3 (n + attach_price side x.u x.v)
             attached_none n gone drops long1 steps = after_release (inner.runs inner_two) gone drops long1 (omega (arith, nodes_code o.first, o.count)) (omega (arith, price_down.1))
@@ -170,14 +158,14 @@ module _ (side : Side) {levels : ℕ} {m : List ℕ} {l r : ℕ} (x : Two (Onto 
   -- what the shapes say
   module _ {y z : Shape} (is_y : (v : LendsSome m l) → ShapeIs v.lends.rope y) (is_z : (v : LendsSome m r) → ShapeIs v.lends.rope z) where
     pub host_one : y.height ≡ 1 → height x.u ≡ 1
-    host_one one = sym (is_y host_some).high ∙ one
+    host_one one = sym (is_y (first_some x x.fit.fit)).high ∙ one
 
     abbrev pub host_view : y.height ≢ 1 → View side x.u
-    host_view more = view side x.u (let k : height x.u ≢ 1 = λ e. more ((is_y host_some).high ∙ e) in omega (arith, x.fit.fit.some_left))
+    host_view more = view side x.u (let k : height x.u ≢ 1 = λ e. more ((is_y (first_some x x.fit.fit)).high ∙ e) in omega (arith, x.fit.fit.some_left))
 
     pub beside_is : fits_beside (height x.u) x.v ≡ beside y z
     beside_is =
-        let p = (is_y host_some).high in
-        let q = (is_z guest_some).high in
-        let s = (is_z guest_some).little in
+        let p = (is_y (first_some x x.fit.fit)).high in
+        let q = (is_z (second_some x x.fit.fit)).high in
+        let s = (is_z (second_some x x.fit.fit)).little in
         cc

@@ -17,8 +17,8 @@ use Rattle.rope_cells.specs.Lending.{LendsSome, ShapeIs}
 use Rattle.rope.specs.Sided.{attach}
 use Rattle.rope.specs.Building.{After, Two, Joins, Fit, Onto, attach_price, Any, concat_price}
 use Rattle.rope_cells.proofs.Codes.{none_empty, some_height}
-use Rattle.rope.proofs.Holds.{swap_have, lends_some, after_by}
-use Rattle.rope.proofs.Makings.{fit_swap}
+use Rattle.rope.proofs.Holds.{swap_have, after_by}
+use Rattle.rope.proofs.Makings.{fit_swap, first_some, second_some}
 
 -- a reference to nothing need not be held
 pub drop_none : (m : List ℕ) (p : ℕ) (v : Tree) (xs : List Item) → p ≡ 0 → Have m (item p v ∷ xs) → Have m xs
@@ -65,18 +65,12 @@ module _ {m : List ℕ} {l r : ℕ} (x : Two Any m l r 128) (some_l : false ≡ 
         few = x.fit.few;
       }
 
-  abbrev pub any_left : LendsSome m l
-  any_left = lends_some m l x.u _ x.fit.left (omega (arith, x.fit.few)) any_fit.some_left x.have
-
-  abbrev pub any_right : LendsSome m r
-  any_right = lends_some m r x.v _ x.fit.right (omega (arith, x.fit.few)) any_fit.some_right (swap_have m _ _ _ x.have)
-
   concat_is : concat x.u x.v ≡ join x.u x.v
   concat_is = concat_join x.u x.v any_fit.some_left any_fit.some_right
 
   module _ {y z : Shape} (is_y : (v : LendsSome m l) → ShapeIs v.lends.rope y) (is_z : (v : LendsSome m r) → ShapeIs v.lends.rope z) where
     pub any_heights : (y.height ≡ height x.u) × (z.height ≡ height x.v) × (height x.u < 36) × (height x.v < 36)
-    any_heights = ((is_y any_left).high, (is_z any_right).high, height_low x.u x.fit.left (omega (arith, x.fit.few)), height_low x.v x.fit.right (omega (arith, x.fit.few)))
+    any_heights = ((is_y (first_some x any_fit)).high, (is_z (second_some x any_fit)).high, height_low x.u x.fit.left (omega (arith, x.fit.few)), height_low x.v x.fit.right (omega (arith, x.fit.few)))
 
     -- the right is not higher
     module _ (le : z.height ≤ y.height) where

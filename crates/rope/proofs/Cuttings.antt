@@ -1,8 +1,9 @@
 -- The steps of cutting a leaf, and of joining a part with what was beside it.
 use Rattle.std.proofs.Common.{◌≡◌, ℕ, ◌+◌, ◌≤◌, List, ◌∷◌, length, take, drop, Some, None, Option, refl, ap, ◌∙◌, sym, subst, arith, length-drop, length-take}
 use Rattle.cells.specs.declared.cell.Ref.{Ref}
+use Rattle.cells.specs.Tree.{Tree}
 use Rattle.cells.specs.Have.{Item, item, all_nodes}
-use Rattle.cells.specs.Steps.{Released, Holding}
+use Rattle.cells.specs.Steps.{Released}
 use Rattle.ropes.specs.Rope.{Rope, leaf, size, cells, Whole}
 use Rattle.ropes.specs.Join.{concat}
 use Rattle.ropes.specs.Cut.{front, back}
@@ -20,6 +21,11 @@ pub after_cut_by : {m m1 m' : List ℕ} {d : Option Cut} {f f' b b' : Rope} {res
     → AfterCut m m' d f' b' rest most' n limit'
 after_cut_by a long is_f is_b le low = record { have = rw (is_f, is_b) a.have; full = λ e. omega (arith, a.full e); cost = omega (arith, a.cost) }
 
+-- nothing was cut, and what was held beside it was let go
+pub after_cut_release : {m m1 m2 m' : List ℕ} {f f' b b' : Rope} {p : ℕ} {v : Tree} {rest : List Item} {most most' n n' limit limit' : ℕ} → AfterCut m1 m2 None f b (item p v ∷ rest) most n limit → Released m2 m' p → n' ≤ n + 5
+    → length m1 ≡ length m → most ≤ most' → limit + 5 ≤ limit' → AfterCut m m' None f' b' rest most' n' limit'
+after_cut_release a gone drops long le low = record { have = gone.have _ _ a.have; full = λ _. omega (arith, a.full refl); cost = omega (arith, a.cost) }
+
 -- two parts, and a third beside them
 module _ {m : List ℕ} {l r q : ℕ} where
   abbrev pub beside_two : Beside m l r q → Two Any m l r 128
@@ -28,9 +34,6 @@ module _ {m : List ℕ} {l r q : ℕ} where
   module _ {m1 : List ℕ} {n n1 : ℕ} where
     pub joins_beside : {d : Ref} → Joins Any concat concat_price 1 m m1 l r 128 (Some d) n n1 → JoinsBeside m m1 l r q (Some d) n n1
     joins_beside j = record { have = λ x. (j.runs (beside_two x)).have; full = λ x e. absurd cc; cost = λ x. omega (arith, (j.runs (beside_two x)).cost) }
-
-    pub beside_holding : Joins Any concat concat_price 1 m m1 l r 128 None n n1 → Beside m l r q → Holding m1 q
-    beside_holding j x = record { tree = code x.w; rest = x.rest; have = (j.runs (beside_two x)).have }
 
     pub joins_none : {m2 : List ℕ} {n2 : ℕ} → Joins Any concat concat_price 1 m m1 l r 128 None n n1 → Released m1 m2 q → n2 ≤ n1 + 5 → JoinsBeside m m2 l r q None n n2
     joins_none j gone drops =
@@ -66,9 +69,6 @@ module _ {m : List ℕ} {p at : ℕ} (x : One (LeafCut at) m p 160) where
 
   abbrev pub cut_leaf : LendsLeaf m p
   cut_leaf = record { lends = lends m p x.t x.rest x.fit.whole (omega (arith, ap size x.fit.is, cut_whole.1)) x.have; xs = x.fit.xs; is = x.fit.is }
-
-  pub cut_holding : Holding m p
-  cut_holding = record { tree = code x.t; rest = x.rest; have = x.have }
 
   abbrev pub cut_free : {m2 : List ℕ} → Released m m2 p → Free m2 1
   cut_free gone = record { rest = x.rest; have = gone.have (code x.t) x.rest x.have; few = omega (arith, x.few) }

@@ -3,7 +3,7 @@ use Rattle.std.proofs.Common.{◌≡◌, ℕ, ◌+◌, ◌<◌, ◌≤◌, List,
 use Rattle.cells.specs.declared.cell.Ref.{Ref}
 use Rattle.cells.specs.Tree.{Tree}
 use Rattle.cells.specs.Have.{Item, item, Have, opt, all_nodes}
-use Rattle.cells.specs.Steps.{Full, Released}
+use Rattle.cells.specs.Steps.{Full, Holding, Released}
 use Rattle.cells.proofs.Held.{reorder, lend}
 use Rattle.ropes.specs.Rope.{Rope, size, height, Whole}
 use Rattle.rope_cells.specs.Coded.{code}
@@ -34,6 +34,10 @@ lends_some m p t xs whole few some h = record { lends = lends m p t xs whole few
 -- where there is no room, what is held has as many cells as there is room for
 pub full_capacity : (m : List ℕ) (xs : List Item) (n : ℕ) → Full m → Have m xs → all_nodes xs ≤ n → capacity (length m) ≤ 8 + n
 full_capacity m xs n full h le = omega (arith, full.few xs h, full.no_room)
+
+-- what stands first is held
+pub holding : {m : List ℕ} {p : ℕ} {t : Tree} {xs : List Item} → Have m (item p t ∷ xs) → Holding m p
+holding h = record { tree = _; rest = _; have = h }
 
 -- what a call made, told of what was there before
 pub after_by : {m m1 m' : List ℕ} {d : Option Ref} {t t' : Rope} {rest : List Item} {most most' n limit limit' : ℕ} → After m1 m' d t rest most n limit → length m1 ≡ length m → t' ≡ t → most ≤ most' → limit ≤ limit'

@@ -15,7 +15,7 @@ use Rattle.rope.specs.Merging.{stays}
 use Rattle.rope.specs.Cutting.{Leaves}
 use Rattle.rope.specs.Building.{After, Two, Joins, Fit, Free, Leafed, spread, Spreads, TwoLeaves}
 use Rattle.rope.proofs.Holds.{swap_have, lends, after_by}
-use Rattle.rope.proofs.Makings.{free_less}
+use Rattle.rope.proofs.Makings.{free_less, as_fit}
 
 -- few bytes
 pub spread_one : {m m' b : List ℕ} {d : Option Ref} {n n' : ℕ} → length b ≤ 48 → Leafed m m' b d n n' → Spreads m m' b d n n'
@@ -82,9 +82,6 @@ module _ {m : List ℕ} {l r : ℕ} (x : Two TwoLeaves m l r 2) where
       let o = leaf_view x.v x.fit.fit.right x.fit.one_right in
       record { lends = lends m r x.v _ x.fit.fit.right (omega (arith, x.fit.fit.few)) (swap_have m _ _ _ x.have); xs = o.xs; is = o.is }
 
-  abbrev pub merge_fit : Two Fit m l r 0
-  merge_fit = record { u = x.u; v = x.v; rest = x.rest; fit = x.fit.fit; have = x.have; few = omega (arith, x.few) }
-
   pub merge_making : Making m l r
   merge_making = record { left = code x.u; right = code x.v; rest = x.rest; have = x.have }
 
@@ -110,7 +107,7 @@ module _ {m : List ℕ} {l r : ℕ} (x : Two TwoLeaves m l r 2) where
         → After m m2 d (merge x.u x.v) x.rest (cells x.u + cells x.v + all_nodes x.rest + 0) n2 (n + 135)
     merged_node n stay last reads =
         let e : node_of (leaf xs) (leaf ys) ≡ node_of x.u x.v = let p = left_is in let q = right_is in cc in
-        after_by (last.runs merge_fit) refl (merge_is ∙ (stay_node xs ys stay ∙ e)) (omega arith) (omega arith)
+        after_by (last.runs (as_fit x x.fit.fit)) refl (merge_is ∙ (stay_node xs ys stay ∙ e)) (omega arith) (omega arith)
 
     -- they become one, or two others
     pub merged_spread : {m2 m3 : List ℕ} {d : Option Ref} {n2 n3 : ℕ} (n : ℕ) → stays (length xs) (length ys) ≡ false → (gone : Dropped m m2 l r) → Spreads m2 m3 (xs ++ ys) d n2 n3 → length m2 ≡ length m → n2 ≤ n + 36

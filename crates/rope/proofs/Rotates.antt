@@ -2,7 +2,7 @@
 use Rattle.std.proofs.Common.{◌≡◌, ℕ, ◌+◌, ◌<◌, ◌≤◌, List, ◌∷◌, length, Some, None, Option, refl, ap, ◌∙◌, arith}
 use Rattle.cells.specs.declared.cell.Ref.{Ref}
 use Rattle.cells.specs.Have.{item, Have, all_nodes}
-use Rattle.cells.specs.Steps.{Opening, Making, Dropped, Holding, Released}
+use Rattle.cells.specs.Steps.{Opening, Making, Dropped, Released}
 use Rattle.ropes.specs.Rope.{Rope, size, height, cells, Inner}
 use Rattle.ropes.proofs.Balance.{inner_some}
 use Rattle.ropes.proofs.Joins.{inner_whole}
@@ -14,6 +14,7 @@ use Rattle.rope.specs.Sided.{node_on, rotate_on, double_on}
 use Rattle.rope.specs.Building.{After, Two, Joins, Fit, Halved, Peak, Doubles, Leaning, Near}
 use Rattle.rope_cells.proofs.Codes.{nodes_code}
 use Rattle.rope.proofs.Holds.{swap_have, third_have, back_have, lends_some, after_by, after_release}
+use Rattle.rope.proofs.Makings.{first_some, second_some}
 use Rattle.rope.proofs.Partings.{view_opening, view_halves}
 use Rattle.rope.proofs.Sides.{View, view, Level, level_inner, cells_on, size_on, rotate_single, rotate_twice, double_node}
 
@@ -79,9 +80,6 @@ module _ (side : Side) {m : List ℕ} {a b c : ℕ} (x : Peak m a b c) where
         module _ {m3 : List ℕ} {n3 : ℕ} where
           -- no room for the second
           module _ (two : Joins Fit (node_on side) (λ _ _. 37) 0 m2 m3 q c 0 None n2 n3) where
-            pub double_holding : Holding m3 d.0
-            double_holding = record { tree = code (node_on side x.u peak_view.first); rest = x.rest; have = (two.runs double_second).have }
-
             pub double_released : {m4 : List ℕ} {n4 : ℕ} (n : ℕ) → Released m3 m4 d.0 → n4 ≤ n3 + 5 → length m1 ≡ length m → n1 ≤ n + 11 → length m2 ≡ length m1 → After m m4 None (double_on side x.u x.v x.w) x.rest (cells x.u + cells x.v + cells x.w + all_nodes x.rest + 1) n4 (n + 122)
             double_released n gone drops long1 steps long2 =
                 let o = peak_view in
@@ -185,9 +183,6 @@ module _ (side : Side) {m : List ℕ} {a b : ℕ} (x : Two Leaning m a b 16) whe
 
       module _ {m2 : List ℕ} {n1 n2 : ℕ} where
         module _ (one : Joins Fit (node_on side) (λ _ _. 37) 0 m1 m2 a p 0 None n1 n2) where
-          pub lean_holding : Holding m2 q
-          lean_holding = record { tree = code lean_view.second; rest = x.rest; have = (one.runs lean_single).have }
-
           pub lean_released : {m3 : List ℕ} {n3 : ℕ} (n : ℕ) → Released m2 m3 q → n3 ≤ n2 + 5 → length m1 ≡ length m → n1 ≤ n + 13 → After m m3 None (rotate_on side x.u x.v) x.rest (cells x.u + cells x.v + all_nodes x.rest + 1) n3 (n + 135)
           lean_released n gone drops long1 steps = after_release (one.runs lean_single) gone drops long1 (omega (arith, nodes_code lean_view.second, lean_view.count)) (omega arith)
 
@@ -217,22 +212,16 @@ module _ (side : Side) {m : List ℕ} {a b : ℕ} (x : Two Leaning m a b 16) whe
 
 -- two parts of which the second may be too high
 module _ {m : List ℕ} {a b : ℕ} (x : Two Near m a b 16) where
-  abbrev pub near_first : LendsSome m a
-  near_first = lends_some m a x.u _ (inner_whole x.u x.fit.first) (omega (arith, x.fit.few)) (inner_some x.u x.fit.first) x.have
-
-  abbrev pub near_second : LendsSome m b
-  near_second = lends_some m b x.v _ (inner_whole x.v x.fit.second) (omega (arith, x.fit.few)) (inner_some x.v x.fit.second) (swap_have m _ _ _ x.have)
+  pub near_fit : Fit x.u x.v
+  near_fit = inner_fit x.u x.v x.fit.first x.fit.second x.fit.few
 
   abbrev pub near_leaning : height x.u + 1 < height x.v → Two Leaning m a b 16
   near_leaning high =
       record { u = x.u; v = x.v; rest = x.rest; fit = record { first = x.fit.first; second = x.fit.second; high = omega (arith, x.fit.high); few = x.fit.few }; have = x.have; few = x.few }
 
-  abbrev pub near_fit : Two Fit m a b 0
-  near_fit = record { u = x.u; v = x.v; rest = x.rest; fit = inner_fit x.u x.v x.fit.first x.fit.second x.fit.few; have = x.have; few = omega (arith, x.few) }
-
   module _ {y z : Shape} (is_y : (v : LendsSome m a) → ShapeIs v.lends.rope y) (is_z : (v : LendsSome m b) → ShapeIs v.lends.rope z) where
     pub near_high : y.height + 1 < z.height → height x.u + 1 < height x.v
-    near_high more = omega (arith, (is_y near_first).high, (is_z near_second).high)
+    near_high more = omega (arith, (is_y (first_some x near_fit)).high, (is_z (second_some x near_fit)).high)
 
     pub near_low : z.height ≤ y.height + 1 → height x.v ≤ height x.u + 1
-    near_low le = omega (arith, (is_y near_first).high, (is_z near_second).high)
+    near_low le = omega (arith, (is_y (first_some x near_fit)).high, (is_z (second_some x near_fit)).high)

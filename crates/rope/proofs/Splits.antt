@@ -1,10 +1,10 @@
 -- The steps of cutting a rope down its nodes.
-use Rattle.std.proofs.Common.{◌≡◌, ℕ, ◌+◌, ◌-◌, ◌<◌, ◌≤◌, ◌≢◌, List, ◌∷◌, length, Some, None, Option, sym, refl, ap, ◌∙◌, subst, arith, length-drop, length-take}
+use Rattle.std.proofs.Common.{◌≡◌, ℕ, ◌+◌, ◌-◌, ◌<◌, ◌≤◌, ◌≢◌, List, ◌∷◌, length, Some, None, Option, sym, ap, ◌∙◌, subst, arith, length-drop, length-take}
 use Rattle.cells.specs.declared.cell.Ref.{Ref}
 use Rattle.cells.specs.Tree.{none}
 use Rattle.cells.specs.Have.{Item, item, refs, Have, all_nodes}
 use Rattle.cells.specs.Sound.{Sound}
-use Rattle.cells.specs.Steps.{Released, Holding, Opening}
+use Rattle.cells.specs.Steps.{Released, Opening}
 use Rattle.cells.proofs.Held.{sound_some}
 use Rattle.ropes.specs.Rope.{Rope, empty, leaf, node, bytes, size, height, cells, Inner}
 use Rattle.ropes.specs.Join.{concat}
@@ -20,13 +20,13 @@ use Rattle.rope_cells.specs.declared.reading.Shape.{Shape}
 use Rattle.rope_cells.proofs.Codes.{nodes_code}
 use Rattle.rope.specs.declared.cutting.Cut.{Cut}
 use Rattle.rope.specs.declared.sided.Side.TheVariants.{Right}
-use Rattle.rope.specs.Building.{Halved}
+use Rattle.rope.specs.Building.{Halved, concat_price}
 use Rattle.rope.specs.Cutting.{AfterCut, One, Sized, Short, LeafCut, Cuts, cut_price, Beside, JoinsBeside}
 use Rattle.rope.proofs.Holds.{swap_have, third_have, back_have, lends, lends_some}
 use Rattle.rope.proofs.Merges.{leaf_view}
 use Rattle.rope.proofs.Partings.{view_opening, view_halves}
 use Rattle.rope.proofs.Sides.{View, view, Level}
-use Rattle.rope.proofs.Cuttings.{after_cut_by, with_front, with_back, cut_with_front, cut_with_back}
+use Rattle.rope.proofs.Cuttings.{after_cut_by, after_cut_release, with_front, with_back, cut_with_front, cut_with_back}
 
 -- a reference to nothing may be held
 pub add_none : (m : List ℕ) (p : ℕ) (xs : List Item) → p ≡ 0 → Have m xs → Have m (item p none ∷ xs)
@@ -134,40 +134,33 @@ module _ {s at k : ℕ} {m m2 : List ℕ} {p a b n n2 : ℕ} (i : Inside s at k 
     pub left_back : back x.t at ≡ concat (back parted.first at) parted.second
     left_back = ap (λ t. back t at) parted.is ∙ back_left parted.first parted.second at i.some (omega (arith, x.fit.long, parted.long)) (omega (arith, middle))
 
-    module _ {m3 : List ℕ} {n3 : ℕ} where
-      module _ {c : Cut} (inner : Cuts (Sized k) (cut_price at) at m2 m3 a (Some c) n2 n3) where
-        abbrev pub left_beside : Beside m3 c.back.0 b c.front.0
-        left_beside =
-            let l = parted_level in
-            record {
-              u = back parted.first at;
-              v = parted.second;
-              w = front parted.first at;
-              rest = x.rest;
-              fit = record { left = (back_ok parted.first at (inner_whole parted.first l.first)).whole; right = inner_whole parted.second l.second; few = omega (arith, part_size parted.first at, x.fit.long, x.fit.few, parted.long) };
-              have = back_have m3 _ _ _ _ (inner.runs left_one).have;
-              few = omega (arith, x.few);
-            }
+    -- what it costs to cut the child and to join a part of it with the other
+    left_price : cut_price at parted.first + (concat_price (back parted.first at) parted.second + 13) ≤ cut_price at x.t
+    left_price = omega (arith, ap height left_front, ap height left_back, cut_left parted.first parted.second at parted_inner, parted.high)
 
-        pub left_joined : {m4 : List ℕ} {n4 : ℕ} (d : Option Ref) → JoinsBeside m3 m4 c.back.0 b c.front.0 d n3 n4 → length m3 ≡ length m2
-            → AfterCut m m4 (with_front c.front d) (front x.t at) (back x.t at) x.rest (cells x.t + all_nodes x.rest + 1) n4 (n + cut_price at x.t)
-        left_joined d last long3 =
-            after_cut_by (cut_with_front d last left_beside) (omega (arith, i.long)) left_front left_back (omega (arith, cells_cut parted.first at, parted.count))
-            (omega (arith, i.cost, (inner.runs left_one).cost, ap height left_front, ap height left_back, cut_left parted.first parted.second at parted_inner, parted.high))
+    module _ {m3 : List ℕ} {n3 : ℕ} {c : Cut} (inner : Cuts (Sized k) (cut_price at) at m2 m3 a (Some c) n2 n3) where
+      abbrev pub left_beside : Beside m3 c.back.0 b c.front.0
+      left_beside =
+          let l = parted_level in
+          record {
+            u = back parted.first at;
+            v = parted.second;
+            w = front parted.first at;
+            rest = x.rest;
+            fit = record { left = (back_ok parted.first at (inner_whole parted.first l.first)).whole; right = inner_whole parted.second l.second; few = omega (arith, part_size parted.first at, x.fit.long, x.fit.few, parted.long) };
+            have = back_have m3 _ _ _ _ (inner.runs left_one).have;
+            few = omega (arith, x.few);
+          }
 
-      module _ (inner : Cuts (Sized k) (cut_price at) at m2 m3 a None n2 n3) where
-        pub left_holding : Holding m3 b
-        left_holding = record { tree = code parted.second; rest = x.rest; have = (inner.runs left_one).have }
+      pub left_joined : {m4 : List ℕ} {n4 : ℕ} (d : Option Ref) → JoinsBeside m3 m4 c.back.0 b c.front.0 d n3 n4 → length m3 ≡ length m2
+          → AfterCut m m4 (with_front c.front d) (front x.t at) (back x.t at) x.rest (cells x.t + all_nodes x.rest + 1) n4 (n + cut_price at x.t)
+      left_joined d last long3 =
+          after_cut_by (cut_with_front d last left_beside) (omega (arith, i.long)) left_front left_back (omega (arith, cells_cut parted.first at, parted.count))
+          (omega (arith, i.cost, (inner.runs left_one).cost, left_price))
 
-        pub left_none : {m4 : List ℕ} {n4 : ℕ} → Released m3 m4 b → n4 ≤ n3 + 5
-            → AfterCut m m4 None (front x.t at) (back x.t at) x.rest (cells x.t + all_nodes x.rest + 1) n4 (n + cut_price at x.t)
-        left_none gone drops =
-            let q = inner.runs left_one in
-            record {
-              have = gone.have _ _ q.have;
-              full = λ _. omega (arith, i.long, q.full refl, nodes_code parted.second, parted.count);
-              cost = omega (arith, i.cost, q.cost, ap height left_front, ap height left_back, cut_left parted.first parted.second at parted_inner, parted.high);
-            }
+    pub left_none : {m3 m4 : List ℕ} {n3 n4 : ℕ} → Cuts (Sized k) (cut_price at) at m2 m3 a None n2 n3 → Released m3 m4 b → n4 ≤ n3 + 5
+        → AfterCut m m4 None (front x.t at) (back x.t at) x.rest (cells x.t + all_nodes x.rest + 1) n4 (n + cut_price at x.t)
+    left_none inner gone drops = after_cut_release (inner.runs left_one) gone drops i.long (omega (arith, nodes_code parted.second, parted.count)) (omega (arith, i.cost, left_price))
 
   -- in the right child
   module _ (ge : k ≤ at) where
@@ -190,44 +183,37 @@ module _ {s at k : ℕ} {m m2 : List ℕ} {p a b n n2 : ℕ} (i : Inside s at k 
     right_back =
         ap (λ t. back t at) parted.is ∙ (back_right parted.first parted.second at i.some (omega (arith, x.fit.long, parted.long)) (omega (arith, middle)) ∙ ap (λ z. back parted.second (at - z)) (sym middle))
 
-    module _ {m3 : List ℕ} {n3 : ℕ} where
-      module _ {c : Cut} (inner : Cuts (Sized (s - k)) (cut_price (at - k)) (at - k) m2 m3 b (Some c) n2 n3) where
-        abbrev pub right_beside : Beside m3 a c.front.0 c.back.0
-        right_beside =
-            let l = parted_level in
-            record {
-              u = parted.first;
-              v = front parted.second (at - k);
-              w = back parted.second (at - k);
-              rest = x.rest;
-              fit = record {
-                left = inner_whole parted.first l.first;
-                right = (front_ok parted.second (at - k) (inner_whole parted.second l.second)).whole;
-                few = omega (arith, front_size parted.second (at - k), x.fit.long, x.fit.few, parted.long);
-              };
-              have = third_have m3 _ _ _ _ (inner.runs right_one).have;
-              few = omega (arith, x.few);
-            }
+    -- what it costs to cut the child and to join a part of it with the other
+    right_price : cut_price (at - k) parted.second + (concat_price parted.first (front parted.second (at - k)) + 13) ≤ cut_price at x.t
+    right_price = omega (arith, ap height right_front, ap height right_back, cut_right parted.first parted.second (at - k) parted_inner, parted.high)
 
-        pub right_joined : {m4 : List ℕ} {n4 : ℕ} (d : Option Ref) → JoinsBeside m3 m4 a c.front.0 c.back.0 d n3 n4 → length m3 ≡ length m2
-            → AfterCut m m4 (with_back c.back d) (front x.t at) (back x.t at) x.rest (cells x.t + all_nodes x.rest + 1) n4 (n + cut_price at x.t)
-        right_joined d last long3 =
-            after_cut_by (cut_with_back d last right_beside) (omega (arith, i.long)) right_front right_back (omega (arith, cells_cut parted.second (at - k), parted.count))
-            (omega (arith, i.cost, (inner.runs right_one).cost, ap height right_front, ap height right_back, cut_right parted.first parted.second (at - k) parted_inner, parted.high))
+    module _ {m3 : List ℕ} {n3 : ℕ} {c : Cut} (inner : Cuts (Sized (s - k)) (cut_price (at - k)) (at - k) m2 m3 b (Some c) n2 n3) where
+      abbrev pub right_beside : Beside m3 a c.front.0 c.back.0
+      right_beside =
+          let l = parted_level in
+          record {
+            u = parted.first;
+            v = front parted.second (at - k);
+            w = back parted.second (at - k);
+            rest = x.rest;
+            fit = record {
+              left = inner_whole parted.first l.first;
+              right = (front_ok parted.second (at - k) (inner_whole parted.second l.second)).whole;
+              few = omega (arith, front_size parted.second (at - k), x.fit.long, x.fit.few, parted.long);
+            };
+            have = third_have m3 _ _ _ _ (inner.runs right_one).have;
+            few = omega (arith, x.few);
+          }
 
-      module _ (inner : Cuts (Sized (s - k)) (cut_price (at - k)) (at - k) m2 m3 b None n2 n3) where
-        pub right_holding : Holding m3 a
-        right_holding = record { tree = code parted.first; rest = x.rest; have = (inner.runs right_one).have }
+      pub right_joined : {m4 : List ℕ} {n4 : ℕ} (d : Option Ref) → JoinsBeside m3 m4 a c.front.0 c.back.0 d n3 n4 → length m3 ≡ length m2
+          → AfterCut m m4 (with_back c.back d) (front x.t at) (back x.t at) x.rest (cells x.t + all_nodes x.rest + 1) n4 (n + cut_price at x.t)
+      right_joined d last long3 =
+          after_cut_by (cut_with_back d last right_beside) (omega (arith, i.long)) right_front right_back (omega (arith, cells_cut parted.second (at - k), parted.count))
+          (omega (arith, i.cost, (inner.runs right_one).cost, right_price))
 
-        pub right_none : {m4 : List ℕ} {n4 : ℕ} → Released m3 m4 a → n4 ≤ n3 + 5
-            → AfterCut m m4 None (front x.t at) (back x.t at) x.rest (cells x.t + all_nodes x.rest + 1) n4 (n + cut_price at x.t)
-        right_none gone drops =
-            let q = inner.runs right_one in
-            record {
-              have = gone.have _ _ q.have;
-              full = λ _. omega (arith, i.long, q.full refl, nodes_code parted.first, parted.count);
-              cost = omega (arith, i.cost, q.cost, ap height right_front, ap height right_back, cut_right parted.first parted.second (at - k) parted_inner, parted.high);
-            }
+    pub right_none : {m3 m4 : List ℕ} {n3 n4 : ℕ} → Cuts (Sized (s - k)) (cut_price (at - k)) (at - k) m2 m3 b None n2 n3 → Released m3 m4 a → n4 ≤ n3 + 5
+        → AfterCut m m4 None (front x.t at) (back x.t at) x.rest (cells x.t + all_nodes x.rest + 1) n4 (n + cut_price at x.t)
+    right_none inner gone drops = after_cut_release (inner.runs right_one) gone drops i.long (omega (arith, nodes_code parted.first, parted.count)) (omega (arith, i.cost, right_price))
 
 -- a rope whose length is read first
 module _ {m : List ℕ} {p : ℕ} (x : One Short m p 160) where

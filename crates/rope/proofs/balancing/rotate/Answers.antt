@@ -1,5 +1,6 @@
 use Rattle.std.proofs.Common.{arith}
-use Rattle.rope.proofs.Rotates.{lean_opening, lean_first, lean_second, lean_peak, lean_doubled, lean_single, lean_holding, lean_released, lean_last, lean_rotated}
+use Rattle.rope.proofs.Holds.{holding}
+use Rattle.rope.proofs.Rotates.{lean_opening, lean_first, lean_second, lean_peak, lean_doubled, lean_single, lean_released, lean_last, lean_rotated}
 use Rattle.rope.proofs.balancing.rotate.Goals as goal
 
 pub halve-requires : goal.halve-requires
@@ -31,7 +32,8 @@ node_on-requires g c =
 pub release-requires : goal.release-requires
 release-requires g c =
     let s = c.shapes_of-s.ensures in
-    lean_holding c.args.side c.requires c.halve.ensures.halved s.first s.second c.if-s.false (rw s.same at c.in_default.ensures.joins)
+    let one = rw s.same at c.in_default.ensures.joins in
+    holding (one.runs (lean_single c.args.side c.requires c.halve.ensures.halved s.first s.second c.if-s.false)).have
 
 pub returns-in_default-clause-joins : goal.returns-in_default-clause-joins
 returns-in_default-clause-joins g c =

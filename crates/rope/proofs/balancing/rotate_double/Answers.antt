@@ -1,4 +1,5 @@
-use Rattle.rope.proofs.Rotates.{peak_opening, double_first, double_making, double_dropped, double_second, double_holding, double_released, double_last, doubled}
+use Rattle.rope.proofs.Holds.{holding}
+use Rattle.rope.proofs.Rotates.{peak_opening, double_first, double_making, double_dropped, double_second, double_released, double_last, doubled}
 use Rattle.rope.proofs.balancing.rotate_double.Goals as goal
 
 pub halve-requires : goal.halve-requires
@@ -20,7 +21,7 @@ pub node_on-requires-2 : goal.node_on-requires-2
 node_on-requires-2 g c = double_second c.args.side c.requires c.halve.ensures.halved c.in-Some.ensures.joins
 
 pub release-requires : goal.release-requires
-release-requires g c = double_holding c.args.side c.requires c.halve.ensures.halved c.in-Some.ensures.joins c.in_default-node_on.ensures.joins
+release-requires g c = holding (c.in_default-node_on.ensures.joins.runs (double_second c.args.side c.requires c.halve.ensures.halved c.in-Some.ensures.joins)).have
 
 pub returns-in_default-node_on-clause-doubles : goal.returns-in_default-node_on-clause-doubles
 returns-in_default-node_on-clause-doubles g c =

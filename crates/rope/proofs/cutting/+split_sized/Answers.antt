@@ -1,6 +1,7 @@
 use Rattle.std.proofs.Common.{◌<◌, ◌≤◌, ℕ, Some, None, refl, arith}
+use Rattle.rope.proofs.Holds.{holding}
 use Rattle.rope.proofs.Cuttings.{after_cut_by}
-use Rattle.rope.proofs.Splits.{cuts_zero, cuts_all, sized_some, sized_lends, sized_leaf, sized_view, sized_children, sized_opening, sized_middle, Inside, middle_bounds, left_one, left_beside, left_joined, left_holding, left_none, right_one, right_beside, right_joined, right_holding, right_none}
+use Rattle.rope.proofs.Splits.{cuts_zero, cuts_all, sized_some, sized_lends, sized_leaf, sized_view, sized_children, sized_opening, sized_middle, Inside, middle_bounds, left_one, left_beside, left_joined, left_none, right_one, right_beside, right_joined, right_none}
 use Rattle.rope.specs.declared.sided.Side.TheVariants.{Right}
 use Rattle.rope.proofs.Partings.{halved_on}
 use Rattle.rope.proofs.cutting.+split_sized.Given.{Over}
@@ -69,7 +70,7 @@ split_sized-requires g t c κs within =
     (omega (arith, (middle_bounds i c.requires).1, c.decreases), (within, left_one i c.requires c.if-at-middle.true))
 
 pub release-requires : goal.release-requires
-release-requires g t c = left_holding (inside g t (goal.at.release-requires g t c).After-part-children) c.requires c.if-at-middle.true c.in_default.ensures.cuts
+release-requires g t c = holding (c.in_default.ensures.cuts.runs (left_one (inside g t (goal.at.release-requires g t c).After-part-children) c.requires c.if-at-middle.true)).have
 
 pub returns-in_default-clause-cuts : goal.returns-in_default-clause-cuts
 returns-in_default-clause-cuts g t c =
@@ -100,7 +101,7 @@ split_sized-requires-else-at-middle g t c κs within =
 
 pub release-requires-in_default-split_sized : goal.release-requires-in_default-split_sized
 release-requires-in_default-split_sized g t c =
-    right_holding (inside g t (goal.at.release-requires-in_default-split_sized g t c).After-part-children) c.requires c.if-at-middle.false c.in_default-split_sized.ensures.cuts
+    holding (c.in_default-split_sized.ensures.cuts.runs (right_one (inside g t (goal.at.release-requires-in_default-split_sized g t c).After-part-children) c.requires c.if-at-middle.false)).have
 
 pub returns-in_default-split_sized-clause-cuts : goal.returns-in_default-split_sized-clause-cuts
 returns-in_default-split_sized-clause-cuts g t c =

@@ -1,12 +1,13 @@
 use Rattle.std.proofs.Common.{◌∙◌, arith}
-use Rattle.rope.proofs.Cuttings.{cut_leaf, cut_holding, cut_free, cut_inside, cut_leaves}
+use Rattle.rope.proofs.Holds.{holding}
+use Rattle.rope.proofs.Cuttings.{cut_leaf, cut_free, cut_inside, cut_leaves}
 use Rattle.rope.proofs.cutting.split_leaf.Goals as goal
 
 pub read_leaf-all-requires : goal.read_leaf-all-requires
 read_leaf-all-requires g c = cut_leaf c.requires
 
 pub release-requires : goal.release-requires
-release-requires g c = rw c.read_leaf-all.ensures.same (cut_holding c.requires)
+release-requires g c = rw c.read_leaf-all.ensures.same (holding c.requires.have)
 
 pub split_at-requires : goal.split_at-requires
 split_at-requires g c = cut_inside c.requires (λ y. c.deref.ensures.0 ∙ c.read_leaf-all.ensures.value y)

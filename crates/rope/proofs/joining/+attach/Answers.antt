@@ -1,12 +1,14 @@
 use Rattle.std.proofs.Common.{sym, ◌∙◌, arith}
-use Rattle.rope.proofs.Attaches.{host_some, guest_some, guest_low, onto_node, onto_leaves, attached_leaf, attached_node, host_opening, host_levels, inner_two, outer_two, attached_inside, outer_holding, attached_none, host_one, host_view, beside_is}
+use Rattle.rope.proofs.Holds.{holding}
+use Rattle.rope.proofs.Makings.{first_some, second_some, as_fit}
+use Rattle.rope.proofs.Attaches.{guest_low, onto_leaves, attached_leaf, attached_node, host_opening, host_levels, inner_two, outer_two, attached_inside, attached_none, host_one, host_view, beside_is}
 use Rattle.rope.proofs.joining.+attach.Goals as goal
 
 pub shapes_of-s-requires-clause-first : goal.shapes_of-s-requires-clause-first
-shapes_of-s-requires-clause-first g t c = host_some c.args.side c.requires
+shapes_of-s-requires-clause-first g t c = first_some c.requires c.requires.fit.fit
 
 pub shapes_of-s-requires-clause-second : goal.shapes_of-s-requires-clause-second
-shapes_of-s-requires-clause-second g t c = guest_some c.args.side c.requires
+shapes_of-s-requires-clause-second g t c = second_some c.requires c.requires.fit.fit
 
 pub merge_on-requires : goal.merge_on-requires
 merge_on-requires g t c =
@@ -20,10 +22,10 @@ returns-then-s-eq1-clause-joins g t c =
     record { runs = λ x. attached_leaf c.args.side x (host_one c.args.side x s.first s.second c.if-s-eq1.true) _ last s.touches }
 
 pub fits_beside-requires : goal.fits_beside-requires
-fits_beside-requires g t c = omega (arith, (c.shapes_of-s.ensures.second (guest_some c.args.side c.requires)).high, guest_low c.args.side c.requires)
+fits_beside-requires g t c = omega (arith, (c.shapes_of-s.ensures.second (second_some c.requires c.requires.fit.fit)).high, guest_low c.args.side c.requires)
 
 pub node_on-requires : goal.node_on-requires
-node_on-requires g t c = rw c.shapes_of-s.ensures.same (onto_node c.args.side c.requires)
+node_on-requires g t c = rw c.shapes_of-s.ensures.same (as_fit c.requires c.requires.fit.fit)
 
 pub returns-then-fits_beside-clause-joins : goal.returns-then-fits_beside-clause-joins
 returns-then-fits_beside-clause-joins g t c =
@@ -74,7 +76,7 @@ release-requires g t c =
     let x = c.requires in
     let o = host_view side x s.first s.second c.if-s-eq1.false in
     let far = beside_is side x s.first s.second ∙ sym c.if-fits_beside.ensures in
-    outer_holding side x o far cut c.in_default.ensures.joins
+    holding (c.in_default.ensures.joins.runs (inner_two side x o far cut)).have
 
 pub returns-in_default-clause-joins : goal.returns-in_default-clause-joins
 returns-in_default-clause-joins g t c =

@@ -1,4 +1,5 @@
-use Rattle.rope.proofs.Concats.{concat_none_left, concat_none_right, any_left, any_right, any_onto, any_unto, concat_right, concat_left}
+use Rattle.rope.proofs.Makings.{first_some, second_some}
+use Rattle.rope.proofs.Concats.{concat_none_left, concat_none_right, any_fit, any_onto, any_unto, concat_right, concat_left}
 use Rattle.rope.proofs.joining.concat.Goals as goal
 
 pub returns-then-is_none-clause-joins : goal.returns-then-is_none-clause-joins
@@ -8,10 +9,10 @@ pub returns-then-is_none-2-clause-joins : goal.returns-then-is_none-2-clause-joi
 returns-then-is_none-2-clause-joins g c = concat_none_right c.if-is_none-2.ensures
 
 pub shapes_of-s-requires-clause-first : goal.shapes_of-s-requires-clause-first
-shapes_of-s-requires-clause-first g c = any_left c.requires c.if-is_none.ensures c.if-is_none-2.ensures
+shapes_of-s-requires-clause-first g c = first_some c.requires (any_fit c.requires c.if-is_none.ensures c.if-is_none-2.ensures)
 
 pub shapes_of-s-requires-clause-second : goal.shapes_of-s-requires-clause-second
-shapes_of-s-requires-clause-second g c = any_right c.requires c.if-is_none.ensures c.if-is_none-2.ensures
+shapes_of-s-requires-clause-second g c = second_some c.requires (any_fit c.requires c.if-is_none.ensures c.if-is_none-2.ensures)
 
 pub attach-requires : goal.attach-requires
 attach-requires g c =

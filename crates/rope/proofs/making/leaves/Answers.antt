@@ -1,4 +1,5 @@
-use Rattle.rope.proofs.Makings.{leaves_none, leaf_second, leaf_holding, leaves_one, leaves_both}
+use Rattle.rope.proofs.Holds.{holding}
+use Rattle.rope.proofs.Makings.{leaves_none, leaf_second, leaves_one, leaves_both}
 use Rattle.rope.proofs.making.leaves.Goals as goal
 
 pub returns-in_err-front-clause-leaves : goal.returns-in_err-front-clause-leaves
@@ -8,7 +9,7 @@ pub leaf-requires-2-clause-heap : goal.leaf-requires-2-clause-heap
 leaf-requires-2-clause-heap g c = leaf_second c.in_ok-front.ensures.leafed c.requires.heap
 
 pub release-requires : goal.release-requires
-release-requires g c = leaf_holding c.in_ok-front.ensures.leafed c.in_default.ensures.leafed c.requires.heap
+release-requires g c = holding (c.in_default.ensures.leafed.runs (leaf_second c.in_ok-front.ensures.leafed c.requires.heap)).have
 
 pub returns-in_default-clause-leaves : goal.returns-in_default-clause-leaves
 returns-in_default-clause-leaves g c = leaves_one c.in_ok-front.ensures.leafed c.in_default.ensures.leafed c.release.ensures.released c.release.ensures.touches c.in_ok-front.ensures.kept.long
