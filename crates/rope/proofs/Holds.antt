@@ -21,9 +21,6 @@ third_have m x y z xs h = reorder m (x ∷ (y ∷ (z ∷ xs))) (z ∷ (x ∷ (y 
 pub back_have : (m : List ℕ) (x y z : Item) (xs : List Item) → Have m (x ∷ (y ∷ (z ∷ xs))) → Have m (y ∷ (z ∷ (x ∷ xs)))
 back_have m x y z xs h = reorder m (x ∷ (y ∷ (z ∷ xs))) (y ∷ (z ∷ (x ∷ xs))) (λ q. omega arith) (λ s. (s.1.0, (s.1.1.0, (s.0, s.1.1.1)))) h
 
-pub have_same : (m m' : List ℕ) (xs : List Item) → m' ≡ m → Have m xs → Have m' xs
-have_same m m' xs e h = subst (λ z. Have z xs) (sym e) h
-
 -- a held rope may be read
 abbrev pub lends : (m : List ℕ) (p : ℕ) (t : Rope) (xs : List Item) → Whole t → size t < 536870912 → Have m (item p (code t) ∷ xs) → Lends m p
 lends m p t xs whole few h = record { rope = t; rest = item p (code t) ∷ xs; whole = whole; few = few; have = h; lent = lend m p (code t) xs h }

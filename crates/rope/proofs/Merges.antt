@@ -82,9 +82,6 @@ module _ {m : List ℕ} {l r : ℕ} (x : Two TwoLeaves m l r 2) where
       let o = leaf_view x.v x.fit.fit.right x.fit.one_right in
       record { lends = lends m r x.v _ x.fit.fit.right (omega (arith, x.fit.fit.few)) (swap_have m _ _ _ x.have); xs = o.xs; is = o.is }
 
-  pub merge_making : Making m l r
-  merge_making = record { left = code x.u; right = code x.v; rest = x.rest; have = x.have }
-
   abbrev pub merge_free : {m2 : List ℕ} → Dropped m m2 l r → Free m2 2
   merge_free gone = record { rest = x.rest; have = gone.have (code x.u) (code x.v) x.rest x.have; few = x.few }
 

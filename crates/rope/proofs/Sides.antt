@@ -126,10 +126,6 @@ pub size_attach : (s : Side) (t x : Rope) → size (attach s t x) ≡ size t + s
 size_attach Right t x = size_append t x
 size_attach Left t x = omega (arith, size_prepend x t)
 
-pub rotations_on_none : (s : Side) (a b : Rope) → height a ≤ height b + 1 → height b ≤ height a + 1 → rotations_on s a b ≡ 0
-rotations_on_none Right a b l h = rotations_none a b l h
-rotations_on_none Left a b l h = rotations_none b a h l
-
 pub attach_rotations : (s : Side) {h : Rope} (o : View s h) (x : Rope) → Inner h → Whole x → 1 ≤ height x → height x ≤ height o.second → fits_beside (height h) x ≡ false
     → rotations_on s o.first (attach s o.second x) + (height (balance_on s o.first (attach s o.second x)) - height h) ≤ height (attach s o.second x) - height o.second
 attach_rotations Right o x i w some le e = rw o.is (append_rotations o.first o.second x (rw o.is at i) w some le (not_beside _ x (rw o.is at e)))
