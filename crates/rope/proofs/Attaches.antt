@@ -14,7 +14,7 @@ use Rattle.rope.specs.declared.sided.Side.TheVariants.{Left, Right}
 use Rattle.rope_cells.specs.declared.reading.Shape.{Shape}
 use Rattle.rope_cells.specs.Coded.{code}
 use Rattle.rope_cells.specs.Lending.{LendsSome, ShapeIs, beside}
-use Rattle.rope.specs.Sided.{node_on, merge_on, balance_on, rotations_on, attach}
+use Rattle.rope.specs.Sided.{node_on, on_side, balance_on, rotations_on, attach}
 use Rattle.rope.specs.Building.{After, Two, Joins, Fit, Halved, Near, TwoLeaves, Onto, attach_price}
 use Rattle.rope_cells.proofs.Codes.{nodes_code}
 use Rattle.rope.proofs.Holds.{swap_have, back_have, after_by, after_release}
@@ -37,7 +37,7 @@ merge_low u v f =
     let e : merge u v ≡ merge (leaf a.xs) (leaf b.xs) = let p = a.is in let q = b.is in cc in
     omega (arith, ap height e, (pair_joined a.xs b.xs wa wb).high)
 
-merged_low : (side : Side) (u v : Rope) → TwoLeaves u v → height (merge_on side u v) ≤ 2
+merged_low : (side : Side) (u v : Rope) → TwoLeaves u v → height (on_side side merge u v) ≤ 2
 merged_low Right u v f = merge_low u v f
 merged_low Left u v f = merge_low v u (leaves_swap u v f)
 
@@ -59,11 +59,11 @@ module _ (side : Side) {levels : ℕ} {m : List ℕ} {l r : ℕ} (x : Two (Onto 
           few = omega (arith, x.few);
         }
 
-    pub attached_leaf : {m2 : List ℕ} {d : Option Ref} {n1 n2 : ℕ} (n : ℕ) → Joins TwoLeaves (merge_on side) (λ _ _. 135) 0 m m2 l r 2 d n1 n2 → n1 ≤ n + 2
+    pub attached_leaf : {m2 : List ℕ} {d : Option Ref} {n1 n2 : ℕ} (n : ℕ) → Joins TwoLeaves (on_side side merge) (λ _ _. 135) 0 m m2 l r 2 d n1 n2 → n1 ≤ n + 2
         → After m m2 d (attach side x.u x.v) x.rest (cells x.u + cells x.v + all_nodes x.rest + 1) n2 (n + attach_price side x.u x.v)
     attached_leaf n last reads =
         let w = leaf_view x.u x.fit.fit.left one in
-        let is : attach side x.u x.v ≡ merge_on side x.u x.v = rw w.is (attach_leaf side w.xs x.v) in
+        let is : attach side x.u x.v ≡ on_side side merge x.u x.v = rw w.is (attach_leaf side w.xs x.v) in
         after_by (last.runs onto_leaves) refl is (omega arith) (omega (arith, ap height is, merged_low side x.u x.v onto_leaves.fit))
 
   -- the host is a node

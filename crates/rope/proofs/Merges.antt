@@ -3,7 +3,7 @@ use Rattle.std.proofs.Common.{◌≡◌, ℕ, ◌+◌, ◌/◌, ◌<◌, ◌≤�
 use Rattle.std.proofs.lemmas.Bool.{le-leb, lt-leb, ltb-true, ltb-false, cond-true, cond-false, and_parts, and_cases}
 use Rattle.cells.specs.declared.cell.Ref.{Ref}
 use Rattle.cells.specs.Have.{all_nodes}
-use Rattle.cells.specs.Steps.{Making, Dropped}
+use Rattle.cells.specs.Steps.{Dropped}
 use Rattle.ropes.proofs.Balance.{inner_some}
 use Rattle.ropes.specs.Rope.{Rope, empty, leaf, leaf_min, leaf_max, height, cells, Octets, Whole}
 use Rattle.ropes.specs.Rope.{node as node_of}

@@ -2,17 +2,17 @@
 use Rattle.std.proofs.Common.{◌≡◌, ℕ, ◌+◌, ◌-◌, ◌<◌, ◌≤◌, max, true, false, List, refl, ◌∙◌, arith}
 use Rattle.std.proofs.lemmas.Bool.{le-leb, lt-leb, le-ltb, lt-ltb, cond-true, cond-false, or_left, or_right}
 use Rattle.ropes.specs.Rope.{Rope, empty, leaf, node, size, height, cells, Inner, Whole}
-use Rattle.ropes.specs.Join.{rotate_double, rotate_left, rotate_right, balance, fits_beside, append, prepend}
+use Rattle.ropes.specs.Join.{rotate_double, rotate_left, rotate_right, balance, fits_beside, merge, append, prepend}
 use Rattle.ropes.specs.Costs.{rotations, steps}
 use Rattle.ropes.proofs.Balance.{Fits}
 use Rattle.ropes.proofs.Joins.{append_inner, prepend_inner, not_beside}
-use Rattle.ropes.proofs.Rotations.{append_rotations, prepend_rotations, rotations_none}
+use Rattle.ropes.proofs.Rotations.{append_rotations, prepend_rotations}
 use Rattle.ropes.proofs.Descents.{steps_down}
 use Rattle.ropes.proofs.Counts.{cells_append, cells_prepend}
 use Rattle.ropes.proofs.Cuts.{size_append, size_prepend}
 use Rattle.rope.specs.declared.sided.Side.{Side}
 use Rattle.rope.specs.declared.sided.Side.TheVariants.{Left, Right}
-use Rattle.rope.specs.Sided.{node_on, merge_on, rotate_on, double_on, balance_on, rotations_on, attach}
+use Rattle.rope.specs.Sided.{node_on, on_side, rotate_on, double_on, balance_on, rotations_on, attach}
 
 pub height_on : (s : Side) (a b : Rope) → height (node_on s a b) ≡ max (height a) (height b) + 1
 height_on Right a b = refl
@@ -99,7 +99,7 @@ unfolding balance
 balance_node Right a b l h = cond-false _ _ _ (le-ltb _ _ l) ∙ cond-false _ _ _ (le-ltb _ _ h)
 balance_node Left a b l h = cond-false _ _ _ (le-ltb _ _ h) ∙ cond-false _ _ _ (le-ltb _ _ l)
 
-pub attach_leaf : (s : Side) (b : List ℕ) (t : Rope) → attach s (leaf b) t ≡ merge_on s (leaf b) t
+pub attach_leaf : (s : Side) (b : List ℕ) (t : Rope) → attach s (leaf b) t ≡ on_side s merge (leaf b) t
 unfolding append prepend
 attach_leaf Right b t = refl
 attach_leaf Left b t = refl

@@ -78,13 +78,13 @@ pub record Beside (m : List ℕ) (l r q : ℕ) : Type 0 where
   pub have : Have m (item l (code u) ∷ (item r (code v) ∷ (item q (code w) ∷ rest)))
   pub few : length rest + 136 < 2147483640
 
--- one, where it was made, before another
-abbrev pub before : Option Ref → Tree → Item → List Item → List Item
-before None t x xs = xs
-before (Some d) t x xs = item d.0 t ∷ (x ∷ xs)
+-- what was made and what is held beside it, or neither
+abbrev pub opt_beside : Option Ref → Tree → Item → List Item → List Item
+opt_beside None t x xs = xs
+opt_beside (Some d) t x xs = item d.0 t ∷ (x ∷ xs)
 
 -- u and v became one beside w, or all three were let go
-pub record JoinsBeside (m m' : List ℕ) (l r q : ℕ) (d : Option Ref) (n n' : ℕ) : Type 0 where
-  pub have : (x : Beside m l r q) → Have m' (before d (code (concat x.u x.v)) (item q (code x.w)) x.rest)
+pub record JoinsBeside (m m' : List ℕ) (l r q : ℕ) (d : Option Ref) (before after : ℕ) : Type 0 where
+  pub have : (x : Beside m l r q) → Have m' (opt_beside d (code (concat x.u x.v)) (item q (code x.w)) x.rest)
   pub full : (x : Beside m l r q) → d ≡ None → capacity (length m) ≤ 8 + (cells x.u + cells x.v + cells x.w + all_nodes x.rest + 1)
-  pub cost : (x : Beside m l r q) → n' ≤ n + concat_price x.u x.v + giving_up d
+  pub cost : (x : Beside m l r q) → after ≤ before + concat_price x.u x.v + giving_up d

@@ -3,7 +3,7 @@ use Rattle.std.specs.Prelude.{ℕ}
 use Rattle.cells.specs.declared.cell.Ref.{Ref}
 use Rattle.ropes.specs.Rope.{Rope, node}
 use Rattle.ropes.specs.Costs.{rotations}
-use Rattle.ropes.specs.Join.{rotate_double, rotate_left, rotate_right, balance, merge, append, prepend}
+use Rattle.ropes.specs.Join.{rotate_double, rotate_left, rotate_right, balance, append, prepend}
 use Rattle.rope.specs.declared.sided.Side.{Side}
 use Rattle.rope.specs.declared.sided.Side.TheVariants.{Left, Right}
 
@@ -12,15 +12,12 @@ abbrev pub on_side : {A B : Type 0} → Side → (A → A → B) → A → A →
 on_side Right f a b = f a b
 on_side Left f a b = f b a
 
--- the two from left to right; or of the left and the right the one on the other side and the one on this
+-- the first and the second from left to right; and the left and the right as first and second
 abbrev pub ordered : Side → Ref → Ref → Ref × Ref
 ordered s a b = on_side s (λ l r. (l, r)) a b
 
 abbrev pub node_on : Side → Rope → Rope → Rope
 node_on s a b = on_side s node a b
-
-abbrev pub merge_on : Side → Rope → Rope → Rope
-merge_on s a b = on_side s merge a b
 
 abbrev pub rotate_on : Side → Rope → Rope → Rope
 rotate_on Right a b = rotate_left a b

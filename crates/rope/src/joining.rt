@@ -2,9 +2,9 @@
 ghost use Rattle.std.specs.Prelude.{◌≡◌, ℕ, ◌+◌, ◌*◌, ◌<◌, ◌≤◌};
 ghost use Rattle.cells.specs.Steps.{Kept};
 ghost use Rattle.rope_cells.specs.Lending.{beside};
-ghost use Rattle.rope.specs.Sided.{merge_on, attach as attached};
+ghost use Rattle.rope.specs.Sided.{attach as attached};
 ghost use Rattle.ropes.specs.Join.{concat as concatenated};
-ghost use Rattle.rope.specs.Building.{Two, Joins, TwoLeaves, Onto, attach_price, Any, concat_price};
+ghost use Rattle.rope.specs.Building.{Two, Joins, Onto, attach_price, Any, concat_price};
 
 use crate::balancing::balance;
 use crate::making::node_on;
@@ -14,16 +14,6 @@ use crate::sided::Side;
 use cells::{Ref, release};
 use rope_cells::{Shape, shapes_of};
 use words::Words;
-
-/// Two leaves as one, or as two, the second on this side.
-fn merge_on<W: Words>(words: &mut W, side: Side, first: Ref, second: Ref) -> Option<Ref>
-    requires { Two TwoLeaves (W.Words.row words.old) first.0 second.0 2 }
-    ensures joins { Joins TwoLeaves (merge_on side) (λ _ _. 135) 0 (W.Words.row words.old) (W.Words.row words.new) first.0 second.0 2 result (W.touched words.old) (W.touched words.new) }
-    ensures kept { Kept (W.Words.row words.old) (W.Words.row words.new) }
-{
-    let (left, right) = side.ordered(first, second);
-    merge(words, left, right)
-}
 
 /// Whether two ropes may be the children of a node, where the first is not lower.
 fn fits_beside(a: Shape, b: Shape) -> bool
@@ -41,7 +31,8 @@ fn attach<W: Words>(words: &mut W, side: Side, host: Ref, guest: Ref, levels: u3
 {
     let s = shapes_of(words, host, guest);
     if s.first.height == 1 {
-        return merge_on(words, side, host, guest);
+        let (left, right) = side.ordered(host, guest);
+        return merge(words, left, right);
     }
     if fits_beside(s.first, s.second) {
         return node_on(words, side, host, guest);

@@ -12,7 +12,7 @@ pub enum Side {
 }
 
 impl Side {
-    /// Two from left to right, of which the second is on this side; or the left and the right, the one on this side second.
+    /// The first and the second, which is on this side, from left to right; and the left and the right as first and second.
     pub fn ordered(self, first: Ref, second: Ref) -> (Ref, Ref)
         ensures { result ≡ ordered self first second }
     {

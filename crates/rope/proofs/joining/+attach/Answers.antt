@@ -1,7 +1,7 @@
 use Rattle.std.proofs.Common.{sym, ◌∙◌, arith}
 use Rattle.rope.proofs.Holds.{holding}
-use Rattle.rope.proofs.Makings.{first_some, second_some, as_fit}
-use Rattle.rope.proofs.Attaches.{guest_low, onto_leaves, attached_leaf, attached_node, host_opening, host_levels, inner_two, outer_two, attached_inside, attached_none, host_one, host_view, beside_is}
+use Rattle.rope.proofs.Makings.{two_ordered, joins_on, first_some, second_some, as_fit}
+use Rattle.rope.proofs.Attaches.{leaves_swap, guest_low, onto_leaves, attached_leaf, attached_node, host_opening, host_levels, inner_two, outer_two, attached_inside, attached_none, host_one, host_view, beside_is}
 use Rattle.rope.proofs.joining.+attach.Goals as goal
 
 pub shapes_of-s-requires-clause-first : goal.shapes_of-s-requires-clause-first
@@ -10,16 +10,16 @@ shapes_of-s-requires-clause-first g t c = first_some c.requires c.requires.fit.f
 pub shapes_of-s-requires-clause-second : goal.shapes_of-s-requires-clause-second
 shapes_of-s-requires-clause-second g t c = second_some c.requires c.requires.fit.fit
 
-pub merge_on-requires : goal.merge_on-requires
-merge_on-requires g t c =
+pub merge-requires : goal.merge-requires
+merge-requires g t c =
     let s = c.shapes_of-s.ensures in
-    rw s.same (onto_leaves c.args.side c.requires (host_one c.args.side c.requires s.first s.second c.if-s-eq1.true))
+    rw (s.same, c.ordered.ensures) (two_ordered c.args.side _ _ leaves_swap (onto_leaves c.args.side c.requires (host_one c.args.side c.requires s.first s.second c.if-s-eq1.true)))
 
 pub returns-then-s-eq1-clause-joins : goal.returns-then-s-eq1-clause-joins
 returns-then-s-eq1-clause-joins g t c =
     let s = c.shapes_of-s.ensures in
-    let last = rw s.same at c.merge_on.ensures.joins in
-    record { runs = λ x. attached_leaf c.args.side x (host_one c.args.side x s.first s.second c.if-s-eq1.true) _ last s.touches }
+    let last = rw (s.same, c.ordered.ensures) at c.merge.ensures.joins in
+    record { runs = λ x. attached_leaf c.args.side x (host_one c.args.side x s.first s.second c.if-s-eq1.true) _ (joins_on c.args.side _ _ leaves_swap last) s.touches }
 
 pub fits_beside-requires : goal.fits_beside-requires
 fits_beside-requires g t c = omega (arith, (c.shapes_of-s.ensures.second (second_some c.requires c.requires.fit.fit)).high, guest_low c.args.side c.requires)
