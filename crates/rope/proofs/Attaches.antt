@@ -5,7 +5,6 @@ use Rattle.cells.specs.Have.{item, all_nodes}
 use Rattle.cells.specs.Steps.{Opening, Released}
 use Rattle.ropes.specs.Rope.{Rope, leaf, height, cells, Whole}
 use Rattle.ropes.specs.Join.{fits_beside, merge}
-use Rattle.ropes.specs.Costs.{steps}
 use Rattle.ropes.proofs.Balance.{Fits, inner_some}
 use Rattle.ropes.proofs.Depths.{height_low}
 use Rattle.ropes.proofs.Joins.{inner_whole, not_beside, pair_joined}
@@ -21,7 +20,7 @@ use Rattle.rope.proofs.Holds.{swap_have, back_have, after_by, after_release}
 use Rattle.rope.proofs.Makings.{fit_swap, first_some, second_some, as_fit}
 use Rattle.rope.proofs.Merges.{leaf_view}
 use Rattle.rope.proofs.Partings.{view_opening, view_halves}
-use Rattle.rope.proofs.Sides.{View, view, height_on, attach_leaf, attach_beside, attach_inside, attach_fits, cells_attach, size_attach, attach_rotations, attach_steps}
+use Rattle.rope.proofs.Sides.{View, view, Level, height_on, attach_leaf, attach_beside, attach_inside, attach_fits, cells_attach, size_attach, attach_rotations, attach_steps}
 
 pub leaves_swap : (u v : Rope) → TwoLeaves u v → TwoLeaves v u
 leaves_swap u v f = record { fit = fit_swap u v f.fit; one_left = f.one_right; one_right = f.one_left }
@@ -77,84 +76,6 @@ module _ (side : Side) {levels : ℕ} {m : List ℕ} {l r : ℕ} (x : Two (Onto 
     pub host_opening : Opening m l
     host_opening = view_opening side o x.have (omega (arith, x.few))
 
-    pub host_levels : 1 ≤ levels
-    host_levels = omega (arith, x.fit.deep, o.high)
-
-    -- the guest does not fit beside it
-    module _ (far : fits_beside (height x.u) x.v ≡ false) where
-      pub inner_lower : height x.v ≤ height o.second
-      inner_lower =
-          let l = o.level x.fit.fit.left in
-          ⊎_elim (λ (q : height x.v + 1 < height x.u). omega (arith, l.low, l.high, o.high)) (λ (q : height x.v ≤ 1). omega (arith, inner_some o.second l.second)) (not_beside (height x.u) x.v far)
-
-      pub inner_fits : Fits (attach side o.second x.v) (height o.second)
-      inner_fits = attach_fits side o.second x.v (o.level x.fit.fit.left).second x.fit.fit.right x.fit.fit.some_right inner_lower
-
-      -- the price of a step down and of a balance
-      pub price_down : (attach_price side o.second x.v + (52 + 98 * rotations_on side o.first (attach side o.second x.v)) ≤ attach_price side x.u x.v) × (attach_price side o.second x.v + 52 ≤ attach_price side x.u x.v)
-      price_down =
-          let k = inner_fits in
-          let r = attach_rotations side o x.v (o.inner x.fit.fit.left) x.fit.fit.right x.fit.fit.some_right inner_lower far in
-          let s = attach_steps side o x.v (o.inner x.fit.fit.left) far in
-          let e = ap height (attach_inside side o x.v far) in
-          (omega (arith, k.low, k.high, r, s, e), omega (arith, k.low, k.high, r, s, e))
-
-      module _ {m1 : List ℕ} {p q : ℕ} (cut : Halved side m m1 l p q) where
-        abbrev pub inner_two : Two (Onto (levels - 1)) m1 q r ((levels - 1) + 32)
-        inner_two =
-            let l = o.level x.fit.fit.left in
-            let some = host_levels in
-            record {
-              u = o.second;
-              v = x.v;
-              rest = item p (code o.first) ∷ x.rest;
-              fit = record {
-                fit = record {
-                  left = inner_whole o.second l.second;
-                  right = x.fit.fit.right;
-                  some_left = inner_some o.second l.second;
-                  some_right = x.fit.fit.some_right;
-                  few = omega (arith, x.fit.fit.few, o.long);
-                };
-                lower = inner_lower;
-                deep = omega (arith, x.fit.deep, o.high);
-              };
-              have = back_have m1 _ _ _ _ (view_halves cut o x.have);
-              few = omega (arith, x.few);
-            }
-
-        module _ {m2 : List ℕ} {n1 n2 : ℕ} where
-          module _ {d : Ref} (inner : Joins (Onto (levels - 1)) (attach side) (attach_price side) 1 m1 m2 q r ((levels - 1) + 32) (Some d) n1 n2) where
-            abbrev pub outer_two : Two Near m2 p d.0 16
-            outer_two =
-                let l = o.level x.fit.fit.left in
-                let k = inner_fits in
-                record {
-                  u = o.first;
-                  v = attach side o.second x.v;
-                  rest = x.rest;
-                  fit = record {
-                    first = l.first;
-                    second = k.inner;
-                    low = omega (arith, k.low, l.low);
-                    high = omega (arith, k.high, l.high);
-                    few = omega (arith, x.fit.fit.few, o.long, size_attach side o.second x.v);
-                  };
-                  have = swap_have m2 _ _ _ (inner.runs inner_two).have;
-                  few = omega (arith, x.few);
-                }
-
-            pub attached_inside : {m3 : List ℕ} {e : Option Ref} {n3 : ℕ} (n : ℕ) → Joins Near (balance_on side) (λ u v. 39 + 98 * rotations_on side u v) 1 m2 m3 p d.0 16 e n2 n3 → length m1 ≡ length m → n1 ≤ n + 13 → length m2 ≡ length m1
-                → After m m3 e (attach side x.u x.v) x.rest (cells x.u + cells x.v + all_nodes x.rest + 1) n3 (n + attach_price side x.u x.v)
-            attached_inside n last long1 steps long2 =
-                after_by (last.runs outer_two) (omega arith) (attach_inside side o x.v far) (omega (arith, cells_attach side o.second x.v, o.count)) (omega (arith, (inner.runs inner_two).cost, price_down.0))
-
-          -- no room
-          module _ (inner : Joins (Onto (levels - 1)) (attach side) (attach_price side) 1 m1 m2 q r ((levels - 1) + 32) None n1 n2) where
-            pub attached_none : {m3 : List ℕ} {n3 : ℕ} (n : ℕ) → Released m2 m3 p → n3 ≤ n2 + 5 → length m1 ≡ length m → n1 ≤ n + 13
-                → After m m3 None (attach side x.u x.v) x.rest (cells x.u + cells x.v + all_nodes x.rest + 1) n3 (n + attach_price side x.u x.v)
-            attached_none n gone drops long1 steps = after_release (inner.runs inner_two) gone drops long1 (omega (arith, nodes_code o.first, o.count)) (omega (arith, price_down.1))
-
   -- what the shapes say
   module _ {y z : Shape} (is_y : (v : LendsSome m l) → ShapeIs v.lends.rope y) (is_z : (v : LendsSome m r) → ShapeIs v.lends.rope z) where
     pub host_one : y.height ≡ 1 → height x.u ≡ 1
@@ -169,3 +90,95 @@ module _ (side : Side) {levels : ℕ} {m : List ℕ} {l r : ℕ} (x : Two (Onto 
         let q = (is_z (second_some x x.fit.fit)).high in
         let s = (is_z (second_some x x.fit.fit)).little in
         cc
+
+-- from m to m1 a host beside which the guest does not fit was let go for its children p and q
+pub record Apart (side : Side) (levels : ℕ) (m m1 : List ℕ) (l r p q n n1 : ℕ) : Type 0 where
+  pub view : (x : Two (Onto levels) m l r (levels + 32)) → View side x.u
+  pub far : (x : Two (Onto levels) m l r (levels + 32)) → fits_beside (height x.u) x.v ≡ false
+  pub cut : Halved side m m1 l p q
+  pub long : length m1 ≡ length m
+  pub cost : n1 ≤ n + 13
+
+module _ {side : Side} {levels : ℕ} {m m1 : List ℕ} {l r p q n n1 : ℕ} (i : Apart side levels m m1 l r p q n n1) where
+  module _ (x : Two (Onto levels) m l r (levels + 32)) where
+    abbrev pub host : View side x.u
+    host = i.view x
+
+    pub host_levels : 1 ≤ levels
+    host_levels = omega (arith, x.fit.deep, host.high)
+
+    pub children : Level host.first host.second
+    children = host.level x.fit.fit.left
+
+    pub inner_lower : height x.v ≤ height host.second
+    inner_lower =
+        let l = children in
+        ⊎_elim (λ (q : height x.v + 1 < height x.u). omega (arith, l.low, l.high, host.high)) (λ (q : height x.v ≤ 1). omega (arith, inner_some host.second l.second)) (not_beside (height x.u) x.v (i.far x))
+
+    pub inner_fits : Fits (attach side host.second x.v) (height host.second)
+    inner_fits = attach_fits side host.second x.v children.second x.fit.fit.right x.fit.fit.some_right inner_lower
+
+    -- the price of a step down and of a balance
+    price_down : attach_price side host.second x.v + (52 + 98 * rotations_on side host.first (attach side host.second x.v)) ≤ attach_price side x.u x.v
+    price_down =
+        let k = inner_fits in
+        let r = attach_rotations side host x.v (host.inner x.fit.fit.left) x.fit.fit.right x.fit.fit.some_right inner_lower (i.far x) in
+        let s = attach_steps side host x.v (host.inner x.fit.fit.left) (i.far x) in
+        omega (arith, k.low, k.high, r, s, ap height (attach_inside side host x.v (i.far x)))
+
+    abbrev pub inner_two : Two (Onto (levels - 1)) m1 q r ((levels - 1) + 32)
+    inner_two =
+        let l = children in
+        let some = host_levels in
+        record {
+          u = host.second;
+          v = x.v;
+          rest = item p (code host.first) ∷ x.rest;
+          fit = record {
+            fit = record {
+              left = inner_whole host.second l.second;
+              right = x.fit.fit.right;
+              some_left = inner_some host.second l.second;
+              some_right = x.fit.fit.some_right;
+              few = omega (arith, x.fit.fit.few, host.long);
+            };
+            lower = inner_lower;
+            deep = omega (arith, x.fit.deep, host.high);
+          };
+          have = back_have m1 _ _ _ _ (view_halves i.cut host x.have);
+          few = omega (arith, x.few);
+        }
+
+  module _ {m2 : List ℕ} {d : Ref} {n2 : ℕ} (inner : Joins (Onto (levels - 1)) (attach side) (attach_price side) 1 m1 m2 q r ((levels - 1) + 32) (Some d) n1 n2) where
+    abbrev pub outer_two : Two (Onto levels) m l r (levels + 32) → Two Near m2 p d.0 16
+    outer_two x =
+        let l = children x in
+        let k = inner_fits x in
+        record {
+          u = (host x).first;
+          v = attach side (host x).second x.v;
+          rest = x.rest;
+          fit = record {
+            first = l.first;
+            second = k.inner;
+            low = omega (arith, k.low, l.low);
+            high = omega (arith, k.high, l.high);
+            few = omega (arith, x.fit.fit.few, (host x).long, size_attach side (host x).second x.v);
+          };
+          have = swap_have m2 _ _ _ (inner.runs (inner_two x)).have;
+          few = omega (arith, x.few);
+        }
+
+    pub attached_inside : {m3 : List ℕ} {e : Option Ref} {n3 : ℕ} → Joins Near (balance_on side) (λ u v. 39 + 98 * rotations_on side u v) 1 m2 m3 p d.0 16 e n2 n3 → length m2 ≡ length m1
+        → Joins (Onto levels) (attach side) (attach_price side) 1 m m3 l r (levels + 32) e n n3
+    attached_inside last long2 =
+        record {
+          runs = λ x.
+              after_by (last.runs (outer_two x)) (omega (arith, i.long)) (attach_inside side (host x) x.v (i.far x)) (omega (arith, cells_attach side (host x).second x.v, (host x).count))
+              (omega (arith, i.cost, (inner.runs (inner_two x)).cost, price_down x));
+        }
+
+  pub attached_none : {m2 m3 : List ℕ} {n2 n3 : ℕ} → Joins (Onto (levels - 1)) (attach side) (attach_price side) 1 m1 m2 q r ((levels - 1) + 32) None n1 n2 → Released m2 m3 p → n3 ≤ n2 + 5
+      → Joins (Onto levels) (attach side) (attach_price side) 1 m m3 l r (levels + 32) None n n3
+  attached_none inner gone drops =
+      record { runs = λ x. after_release (inner.runs (inner_two x)) gone drops i.long (omega (arith, nodes_code (host x).first, (host x).count)) (omega (arith, i.cost, price_down x)) }

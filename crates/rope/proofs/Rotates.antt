@@ -132,83 +132,87 @@ module _ (side : Side) {m : List ℕ} {a b : ℕ} (x : Two Leaning m a b 16) whe
         let l = lean_level in
         lends_some m1 q lean_view.second _ (inner_whole lean_view.second l.second) (omega (arith, x.fit.few, lean_view.long)) (inner_some lean_view.second l.second) (third_have m1 _ _ _ _ lean_have)
 
-    pub lean_high : {y z : Shape} → ((v : LendsSome m1 p) → ShapeIs v.lends.rope y) → ((v : LendsSome m1 q) → ShapeIs v.lends.rope z) → z.height < y.height → height lean_view.second < height lean_view.first
-    lean_high is_y is_z more = omega (arith, (is_y lean_first).high, (is_z lean_second).high)
+-- from m to m1 it was taken in two, p and q, of these heights
+pub record Turned (side : Side) (m m1 : List ℕ) (a b p q y z n n1 : ℕ) : Type 0 where
+  pub cut : Halved side m m1 b p q
+  pub first : (x : Two Leaning m a b 16) → y ≡ height (lean_view side x).first
+  pub second : (x : Two Leaning m a b 16) → z ≡ height (lean_view side x).second
+  pub long : length m1 ≡ length m
+  pub cost : n1 ≤ n + 13
 
-    pub lean_low : {y z : Shape} → ((v : LendsSome m1 p) → ShapeIs v.lends.rope y) → ((v : LendsSome m1 q) → ShapeIs v.lends.rope z) → y.height ≤ z.height → height lean_view.first ≤ height lean_view.second
-    lean_low is_y is_z le = omega (arith, (is_y lean_first).high, (is_z lean_second).high)
+module _ {side : Side} {m m1 : List ℕ} {a b p q y z n n1 : ℕ} (i : Turned side m m1 a b p q y z n n1) where
+  -- the first of the two is higher
+  module _ (more : z < y) where
+    abbrev pub lean_peak : Two Leaning m a b 16 → Peak m1 a p q
+    lean_peak x =
+        let o = lean_view side x in
+        let l = lean_level side x in
+        record {
+          u = x.u;
+          v = o.first;
+          w = o.second;
+          rest = x.rest;
+          first = x.fit.first;
+          second = l.first;
+          third = l.second;
+          high = omega (arith, l.low, i.first x, i.second x);
+          level = omega (arith, x.fit.high, o.high, l.low, i.first x, i.second x);
+          small = omega (arith, x.fit.few, o.long);
+          have = lean_have side x i.cut;
+          few = omega (arith, x.few);
+        }
 
-    -- the first of the two is higher
-    module _ {y z : Shape} (is_y : (v : LendsSome m1 p) → ShapeIs v.lends.rope y) (is_z : (v : LendsSome m1 q) → ShapeIs v.lends.rope z) (more : z.height < y.height) where
-      abbrev pub lean_peak : Peak m1 a p q
-      lean_peak =
-          let high = lean_high is_y is_z more in
-          let o = lean_view in
-          let l = lean_level in
-          record {
-            u = x.u;
-            v = o.first;
-            w = o.second;
-            rest = x.rest;
-            first = x.fit.first;
-            second = l.first;
-            third = l.second;
-            high = omega (arith, l.low);
-            level = omega (arith, x.fit.high, o.high, l.low);
-            small = omega (arith, x.fit.few, o.long);
-            have = lean_have;
-            few = omega (arith, x.few);
-          }
+    pub lean_doubled : {m2 : List ℕ} {d : Option Ref} {n2 : ℕ} → Doubles side m1 m2 a p q d n1 n2 → Joins Leaning (rotate_on side) (λ _ _. 135) 1 m m2 a b 16 d n n2
+    lean_doubled last =
+        record {
+          runs = λ x.
+              let o = lean_view side x in
+              let high : height o.second < height o.first = omega (arith, i.first x, i.second x) in
+              after_by (last.runs (lean_peak x)) i.long (ap (rotate_on side x.u) o.is ∙ rotate_twice side x.u o.first o.second high) (omega (arith, o.count)) (omega (arith, i.cost));
+        }
 
-      pub lean_doubled : {m2 : List ℕ} {d : Option Ref} {n1 n2 : ℕ} (n : ℕ) → Doubles side m1 m2 a p q d n1 n2 → length m1 ≡ length m → n1 ≤ n + 13
-          → After m m2 d (rotate_on side x.u x.v) x.rest (cells x.u + cells x.v + all_nodes x.rest + 1) n2 (n + 135)
-      lean_doubled n last long steps =
-          let high = lean_high is_y is_z more in
-          let o = lean_view in
-          after_by (last.runs lean_peak) long (ap (rotate_on side x.u) o.is ∙ rotate_twice side x.u o.first o.second high) (omega (arith, o.count)) (omega arith)
+  -- it is not
+  abbrev pub lean_single : Two Leaning m a b 16 → Two Fit m1 a p 0
+  lean_single x =
+      let o = lean_view side x in
+      record {
+        u = x.u;
+        v = o.first;
+        rest = item q (code o.second) ∷ x.rest;
+        fit = inner_fit x.u o.first x.fit.first (lean_level side x).first (omega (arith, x.fit.few, o.long));
+        have = lean_have side x i.cut;
+        few = omega (arith, x.few);
+      }
 
-    -- it is not
-    module _ {y z : Shape} (is_y : (v : LendsSome m1 p) → ShapeIs v.lends.rope y) (is_z : (v : LendsSome m1 q) → ShapeIs v.lends.rope z) (le : y.height ≤ z.height) where
-      abbrev pub lean_single : Two Fit m1 a p 0
-      lean_single =
-          let o = lean_view in
-          record {
-            u = x.u;
-            v = o.first;
-            rest = item q (code o.second) ∷ x.rest;
-            fit = inner_fit x.u o.first x.fit.first lean_level.first (omega (arith, x.fit.few, o.long));
-            have = lean_have;
-            few = omega (arith, x.few);
-          }
+  pub lean_released : {m2 m3 : List ℕ} {n2 n3 : ℕ} → Joins Fit (node_on side) (λ _ _. 37) 0 m1 m2 a p 0 None n1 n2 → Released m2 m3 q → n3 ≤ n2 + 5 → Joins Leaning (rotate_on side) (λ _ _. 135) 1 m m3 a b 16 None n n3
+  lean_released one gone drops =
+      record { runs = λ x. after_release (one.runs (lean_single x)) gone drops i.long (omega (arith, nodes_code (lean_view side x).second, (lean_view side x).count)) (omega (arith, i.cost)) }
 
-      module _ {m2 : List ℕ} {n1 n2 : ℕ} where
-        module _ (one : Joins Fit (node_on side) (λ _ _. 37) 0 m1 m2 a p 0 None n1 n2) where
-          pub lean_released : {m3 : List ℕ} {n3 : ℕ} (n : ℕ) → Released m2 m3 q → n3 ≤ n2 + 5 → length m1 ≡ length m → n1 ≤ n + 13 → After m m3 None (rotate_on side x.u x.v) x.rest (cells x.u + cells x.v + all_nodes x.rest + 1) n3 (n + 135)
-          lean_released n gone drops long1 steps = after_release (one.runs lean_single) gone drops long1 (omega (arith, nodes_code lean_view.second, lean_view.count)) (omega arith)
+  module _ {m2 : List ℕ} {d : Ref} {n2 : ℕ} (low : y ≤ z) (one : Joins Fit (node_on side) (λ _ _. 37) 0 m1 m2 a p 0 (Some d) n1 n2) where
+    abbrev pub lean_last : Two Leaning m a b 16 → Two Fit m2 d.0 q 0
+    lean_last x =
+        let o = lean_view side x in
+        let l = lean_level side x in
+        let inner =
+        level_inner side x.u o.first (record { first = x.fit.first; second = l.first; low = omega (arith, x.fit.high, o.high, l.high); high = omega (arith, x.fit.high, o.high, i.first x, i.second x) }) in
+        record {
+          u = node_on side x.u o.first;
+          v = o.second;
+          rest = x.rest;
+          fit = inner_fit (node_on side x.u o.first) o.second inner l.second (omega (arith, x.fit.few, o.long, size_on side x.u o.first));
+          have = (one.runs (lean_single x)).have;
+          few = omega (arith, x.few);
+        }
 
-        module _ {d : Ref} (one : Joins Fit (node_on side) (λ _ _. 37) 0 m1 m2 a p 0 (Some d) n1 n2) where
-          abbrev pub lean_last : Two Fit m2 d.0 q 0
-          lean_last =
-              let low = lean_low is_y is_z le in
-              let o = lean_view in
-              let l = lean_level in
-              let inner = level_inner side x.u o.first (record { first = x.fit.first; second = l.first; low = omega (arith, x.fit.high, o.high, l.high); high = omega (arith, x.fit.high, o.high) }) in
-              record {
-                u = node_on side x.u o.first;
-                v = o.second;
-                rest = x.rest;
-                fit = inner_fit (node_on side x.u o.first) o.second inner l.second (omega (arith, x.fit.few, o.long, size_on side x.u o.first));
-                have = (one.runs lean_single).have;
-                few = omega (arith, x.few);
-              }
-
-          pub lean_rotated : {m3 : List ℕ} {f : Option Ref} {n3 : ℕ} (n : ℕ) → Joins Fit (node_on side) (λ _ _. 37) 0 m2 m3 d.0 q 0 f n2 n3 → length m1 ≡ length m → n1 ≤ n + 13 → length m2 ≡ length m1
-              → After m m3 f (rotate_on side x.u x.v) x.rest (cells x.u + cells x.v + all_nodes x.rest + 1) n3 (n + 135)
-          lean_rotated n last long1 steps long2 =
-              let low = lean_low is_y is_z le in
-              let o = lean_view in
-              after_by (last.runs lean_last) (omega arith) (ap (rotate_on side x.u) o.is ∙ rotate_single side x.u o.first o.second low) (omega (arith, cells_on side x.u o.first, o.count))
-              (omega (arith, (one.runs lean_single).cost))
+    pub lean_rotated : {m3 : List ℕ} {f : Option Ref} {n3 : ℕ} → Joins Fit (node_on side) (λ _ _. 37) 0 m2 m3 d.0 q 0 f n2 n3 → length m2 ≡ length m1 → Joins Leaning (rotate_on side) (λ _ _. 135) 1 m m3 a b 16 f n n3
+    lean_rotated last long2 =
+        record {
+          runs = λ x.
+              let o = lean_view side x in
+              let le : height o.first ≤ height o.second = omega (arith, i.first x, i.second x) in
+              after_by (last.runs (lean_last x)) (omega (arith, i.long)) (ap (rotate_on side x.u) o.is ∙ rotate_single side x.u o.first o.second le) (omega (arith, cells_on side x.u o.first, o.count))
+              (omega (arith, i.cost, (one.runs (lean_single x)).cost));
+        }
 
 -- two parts of which the second may be too high
 module _ {m : List ℕ} {a b : ℕ} (x : Two Near m a b 16) where

@@ -1,7 +1,9 @@
-use Rattle.std.proofs.Common.{sym, ◌∙◌, arith}
+use Rattle.std.proofs.Common.{ℕ, sym, ◌∙◌, arith}
 use Rattle.rope.proofs.Holds.{holding}
 use Rattle.rope.proofs.Makings.{two_ordered, joins_on, first_some, second_some, as_fit}
-use Rattle.rope.proofs.Attaches.{leaves_swap, guest_low, onto_leaves, attached_leaf, attached_node, host_opening, host_levels, inner_two, outer_two, attached_inside, attached_none, host_one, host_view, beside_is}
+use Rattle.rope.proofs.Attaches.{Apart, leaves_swap, guest_low, onto_leaves, attached_leaf, attached_node, host_opening, host_levels, inner_two, outer_two, attached_inside, attached_none, host_one, host_view, beside_is}
+use Rattle.rope.proofs.joining.+attach.Given.{Over}
+use Rattle.rope.proofs.joining.+attach.Goals.{After-halve}
 use Rattle.rope.proofs.joining.+attach.Goals as goal
 
 pub shapes_of-s-requires-clause-first : goal.shapes_of-s-requires-clause-first
@@ -39,71 +41,43 @@ halve-requires g t c =
     let s = c.shapes_of-s.ensures in
     rw s.same (host_opening c.args.side c.requires (host_view c.args.side c.requires s.first s.second c.if-s-eq1.false))
 
-pub overflow_sub-levels : goal.overflow_sub-levels
-overflow_sub-levels g t c =
+-- what is known of the children
+apart : (g : Over) (t : ℕ) (c : After-halve g t)
+    → Apart c.args.side c.args.levels (g.W.Words.row c.args.words.now) (g.W.Words.row c.halve.new.words) c.args.host.0 c.args.guest.0 c.halve.result.0.0 c.halve.result.1.0 (g.W.Words.touched c.args.words.now) (g.W.Words.touched c.halve.new.words)
+apart g t c =
+    let side = c.args.side in
     let s = c.shapes_of-s.ensures in
-    host_levels c.args.side c.requires (host_view c.args.side c.requires s.first s.second c.if-s-eq1.false)
+    let h = c.halve.ensures in
+    let cut = rw s.same at h.halved in
+    let long = rw s.same at h.kept.long in
+    record {
+      view = λ x. host_view side x s.first s.second c.if-s-eq1.false;
+      far = λ x. beside_is side x s.first s.second ∙ sym c.if-fits_beside.ensures;
+      cut = cut;
+      long = long;
+      cost = omega (arith, s.touches, h.touches);
+    }
+
+pub overflow_sub-levels : goal.overflow_sub-levels
+overflow_sub-levels g t c = host_levels (apart g t (goal.at.overflow_sub-levels g t c).After-halve) c.requires
 
 pub attach-requires : goal.attach-requires
 attach-requires g t c κs within =
-    let side = c.args.side in
-    let s = c.shapes_of-s.ensures in
-    let h = c.halve.ensures in
-    let cut = rw s.same at h.halved in
-    let x = c.requires in
-    let o = host_view side x s.first s.second c.if-s-eq1.false in
-    let far = beside_is side x s.first s.second ∙ sym c.if-fits_beside.ensures in
-    let some = host_levels side x o in
-    (omega (arith, c.decreases), (within, inner_two side x o far cut))
+    let i = apart g t (goal.at.attach-requires g t c).After-halve in
+    let some = host_levels i c.requires in
+    (omega (arith, c.decreases), (within, inner_two i c.requires))
 
 pub balance-requires : goal.balance-requires
-balance-requires g t c =
-    let side = c.args.side in
-    let s = c.shapes_of-s.ensures in
-    let h = c.halve.ensures in
-    let cut = rw s.same at h.halved in
-    let x = c.requires in
-    let o = host_view side x s.first s.second c.if-s-eq1.false in
-    let far = beside_is side x s.first s.second ∙ sym c.if-fits_beside.ensures in
-    outer_two side x o far cut c.in-Some.ensures.joins
+balance-requires g t c = outer_two (apart g t (goal.at.balance-requires g t c).After-halve) c.in-Some.ensures.joins c.requires
 
 pub release-requires : goal.release-requires
-release-requires g t c =
-    let side = c.args.side in
-    let s = c.shapes_of-s.ensures in
-    let h = c.halve.ensures in
-    let cut = rw s.same at h.halved in
-    let x = c.requires in
-    let o = host_view side x s.first s.second c.if-s-eq1.false in
-    let far = beside_is side x s.first s.second ∙ sym c.if-fits_beside.ensures in
-    holding (c.in_default.ensures.joins.runs (inner_two side x o far cut)).have
+release-requires g t c = holding (c.in_default.ensures.joins.runs (inner_two (apart g t (goal.at.release-requires g t c).After-halve) c.requires)).have
 
 pub returns-in_default-clause-joins : goal.returns-in_default-clause-joins
 returns-in_default-clause-joins g t c =
-    let side = c.args.side in
-    let s = c.shapes_of-s.ensures in
-    let h = c.halve.ensures in
-    let cut = rw s.same at h.halved in
-    let long = rw s.same at h.kept.long in
-    let gone = c.release.ensures in
-    record {
-      runs = λ x.
-          let o = host_view side x s.first s.second c.if-s-eq1.false in
-          let far = beside_is side x s.first s.second ∙ sym c.if-fits_beside.ensures in
-          attached_none side x o far cut c.in_default.ensures.joins _ gone.released gone.touches long (omega (arith, s.touches, h.touches));
-    }
+    attached_none (apart g t (goal.at.returns-in_default-clause-joins g t c).After-halve) c.in_default.ensures.joins c.release.ensures.released c.release.ensures.touches
 
 pub returns-clause-joins : goal.returns-clause-joins
 returns-clause-joins g t c =
-    let side = c.args.side in
-    let s = c.shapes_of-s.ensures in
-    let h = c.halve.ensures in
-    let cut = rw s.same at h.halved in
-    let long = rw s.same at h.kept.long in
     let inner = c.in-Some.ensures in
-    record {
-      runs = λ x.
-          let o = host_view side x s.first s.second c.if-s-eq1.false in
-          let far = beside_is side x s.first s.second ∙ sym c.if-fits_beside.ensures in
-          attached_inside side x o far cut inner.joins _ c.balance.ensures.joins long (omega (arith, s.touches, h.touches)) inner.kept.long;
-    }
+    attached_inside (apart g t (goal.at.returns-clause-joins g t c).After-halve) inner.joins c.balance.ensures.joins inner.kept.long
