@@ -14,10 +14,14 @@ use Rattle.rope.specs.Sided.{node_on, double_on, attach}
 abbrev pub capacity : ℕ → ℕ
 capacity words = min 268435456 (words / 16)
 
+-- n where there is nothing
+abbrev pub if_none : {A : Type 0} → ℕ → Option A → ℕ
+if_none n None = n
+if_none n (Some d) = 0
+
 -- what it costs to let two references go where there is no room for what they go into
 abbrev pub giving_up : Option Ref → ℕ
-giving_up None = 10
-giving_up (Some p) = 0
+giving_up d = if_none 10 d
 
 -- The row went from m to m'. The rope t is held beside the rest, or just the rest, since the row has no room for more than `most` cells.
 pub record After (m m' : List ℕ) (d : Option Ref) (t : Rope) (rest : List Item) (most touched limit : ℕ) : Type 0 where

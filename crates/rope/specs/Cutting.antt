@@ -8,7 +8,7 @@ use Rattle.ropes.specs.Join.{concat}
 use Rattle.ropes.specs.Cut.{front, back}
 use Rattle.rope_cells.specs.Coded.{code}
 use Rattle.rope.specs.declared.cutting.Cut.{Cut}
-use Rattle.rope.specs.Building.{capacity, Free, Any, concat_price}
+use Rattle.rope.specs.Building.{capacity, if_none, Free, Any, concat_price}
 
 -- the two parts, where they were made
 abbrev pub parts : Option Cut → Tree → Tree → List Item → List Item
@@ -17,8 +17,7 @@ parts (Some c) f b xs = item c.front.0 f ∷ (item c.back.0 b ∷ xs)
 
 -- what it costs to let three references go where there is no room
 abbrev pub giving_up : {A : Type 0} → Option A → ℕ
-giving_up None = 15
-giving_up (Some c) = 0
+giving_up d = if_none 15 d
 
 -- The row went from m to m'. The ropes f and b are held beside the rest, or just the rest, since the row has no room for more than `most` cells.
 pub record AfterCut (m m' : List ℕ) (d : Option Cut) (f b : Rope) (rest : List Item) (most touched limit : ℕ) : Type 0 where

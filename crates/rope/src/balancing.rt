@@ -36,8 +36,8 @@ fn rotate<W: Words>(words: &mut W, side: Side, a: Ref, b: Ref) -> Option<Ref>
     ensures kept { Kept (W.Words.row words.old) (W.Words.row words.new) }
 {
     let (first, second) = halve(words, side, b);
-    let s = shapes_of(words, first, second);
-    if s.first.height > s.second.height {
+    let shapes = shapes_of(words, first, second);
+    if shapes.first.height > shapes.second.height {
         return rotate_double(words, side, a, first, second);
     }
     let Some(x) = node_on(words, side, a, first) else {
@@ -53,8 +53,8 @@ pub fn balance<W: Words>(words: &mut W, side: Side, a: Ref, b: Ref) -> Option<Re
     ensures joins { Joins Near (balance_on side) (λ u v. 39 + 98 * rotations_on side u v) 1 (W.Words.row words.old) (W.Words.row words.new) a.0 b.0 16 result (W.touched words.old) (W.touched words.new) }
     ensures kept { Kept (W.Words.row words.old) (W.Words.row words.new) }
 {
-    let s = shapes_of(words, a, b);
-    if s.first.height + 1 < s.second.height {
+    let shapes = shapes_of(words, a, b);
+    if shapes.first.height + 1 < shapes.second.height {
         rotate(words, side, a, b)
     } else {
         node_on(words, side, a, b)

@@ -30,40 +30,40 @@ fn concat_beside<W: Words>(words: &mut W, left: Ref, right: Ref, held: Ref) -> O
 }
 
 /// A leaf cut inside.
-fn split_leaf<W: Words>(words: &mut W, t: Ref, at: usize) -> Option<Cut>
-    requires { One (LeafCut at) (W.Words.row words.old) t.0 160 }
-    ensures cuts { Cuts (LeafCut at) (λ _. 100) at (W.Words.row words.old) (W.Words.row words.new) t.0 result (W.touched words.old) (W.touched words.new) }
+fn split_leaf<W: Words>(words: &mut W, rope: Ref, at: usize) -> Option<Cut>
+    requires { One (LeafCut at) (W.Words.row words.old) rope.0 160 }
+    ensures cuts { Cuts (LeafCut at) (λ _. 100) at (W.Words.row words.old) (W.Words.row words.new) rope.0 result (W.touched words.old) (W.touched words.new) }
     ensures kept { Kept (W.Words.row words.old) (W.Words.row words.new) }
 {
-    let all = read_leaf(words, t);
-    release(words, t);
+    let all = read_leaf(words, rope);
+    release(words, rope);
     let (front, back) = all.split_at(at);
     leaves(words, front, back)
 }
 
 /// A rope of `size` bytes cut at place `at`.
-fn split_sized<W: Words>(words: &mut W, t: Ref, size: u32, at: u32) -> Option<Cut>
-    requires { One (Sized size) (W.Words.row words.old) t.0 160 }
-    ensures cuts { Cuts (Sized size) (cut_price at) at (W.Words.row words.old) (W.Words.row words.new) t.0 result (W.touched words.old) (W.touched words.new) }
+fn split_sized<W: Words>(words: &mut W, rope: Ref, size: u32, at: u32) -> Option<Cut>
+    requires { One (Sized size) (W.Words.row words.old) rope.0 160 }
+    ensures cuts { Cuts (Sized size) (cut_price at) at (W.Words.row words.old) (W.Words.row words.new) rope.0 result (W.touched words.old) (W.touched words.new) }
     ensures kept { Kept (W.Words.row words.old) (W.Words.row words.new) }
 {
     if at == 0 {
         return Some(Cut {
             front: NONE,
-            back: t,
+            back: rope,
         });
     }
     if at >= size {
         return Some(Cut {
-            front: t,
+            front: rope,
             back: NONE,
         });
     }
-    if shape_of(words, t).height == 1 {
-        return split_leaf(words, t, at as usize);
+    if shape_of(words, rope).height == 1 {
+        return split_leaf(words, rope, at as usize);
     }
-    let middle = left_sum::<Bytes, W>(words, t);
-    let children = part(words, t);
+    let middle = left_sum::<Bytes, W>(words, rope);
+    let children = part(words, rope);
     if at < middle {
         let Some(cut) = split_sized(words, children.left, middle, at) else {
             release(words, children.right);
@@ -88,11 +88,11 @@ fn split_sized<W: Words>(words: &mut W, t: Ref, size: u32, at: u32) -> Option<Cu
 }
 
 /// The rope cut at place `at`.
-pub fn split<W: Words>(words: &mut W, t: Ref, at: u32) -> Option<Cut>
-    requires { One Short (W.Words.row words.old) t.0 160 }
-    ensures cuts { Splits at (W.Words.row words.old) (W.Words.row words.new) t.0 result (W.touched words.old) (W.touched words.new) }
+pub fn split<W: Words>(words: &mut W, rope: Ref, at: u32) -> Option<Cut>
+    requires { One Short (W.Words.row words.old) rope.0 160 }
+    ensures cuts { Splits at (W.Words.row words.old) (W.Words.row words.new) rope.0 result (W.touched words.old) (W.touched words.new) }
     ensures kept { Kept (W.Words.row words.old) (W.Words.row words.new) }
 {
-    let size = len(words, t);
-    split_sized(words, t, size, at)
+    let size = len(words, rope);
+    split_sized(words, rope, size, at)
 }

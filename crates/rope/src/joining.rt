@@ -29,12 +29,12 @@ fn attach<W: Words>(words: &mut W, side: Side, host: Ref, guest: Ref, levels: u3
     ensures joins { Joins (Onto levels) (attached side) (attach_price side) 1 (W.Words.row words.old) (W.Words.row words.new) host.0 guest.0 (levels + 32) result (W.touched words.old) (W.touched words.new) }
     ensures kept { Kept (W.Words.row words.old) (W.Words.row words.new) }
 {
-    let s = shapes_of(words, host, guest);
-    if s.first.height == 1 {
+    let shapes = shapes_of(words, host, guest);
+    if shapes.first.height == 1 {
         let (left, right) = side.ordered(host, guest);
         return merge(words, left, right);
     }
-    if fits_beside(s.first, s.second) {
+    if fits_beside(shapes.first, shapes.second) {
         return node_on(words, side, host, guest);
     }
     let (first, second) = halve(words, side, host);
@@ -57,10 +57,10 @@ pub fn concat<W: Words>(words: &mut W, left: Ref, right: Ref) -> Option<Ref>
     if right.is_none() {
         return Some(left);
     }
-    let s = shapes_of(words, left, right);
-    if s.second.height <= s.first.height {
-        attach(words, Side::Right, left, right, s.first.height)
+    let shapes = shapes_of(words, left, right);
+    if shapes.second.height <= shapes.first.height {
+        attach(words, Side::Right, left, right, shapes.first.height)
     } else {
-        attach(words, Side::Left, right, left, s.second.height)
+        attach(words, Side::Left, right, left, shapes.second.height)
     }
 }

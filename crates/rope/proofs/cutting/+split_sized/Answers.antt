@@ -43,7 +43,7 @@ part-children-requires g t c =
 
 -- what is known of the children
 inside : (g : Over) (t : ℕ) (c : After-part-children g t)
-    → Inside c.args.size c.args.at c.left_sum-middle.result (g.W.Words.row c.args.words.now) (g.W.Words.row c.part-children.new.words) c.args.t.0 c.part-children.result.left.0 c.part-children.result.right.0 (g.W.Words.touched c.args.words.now) (g.W.Words.touched c.part-children.new.words)
+    → Inside c.args.size c.args.at c.left_sum-middle.result (g.W.Words.row c.args.words.now) (g.W.Words.row c.part-children.new.words) c.args.rope.0 c.part-children.result.left.0 c.part-children.result.right.0 (g.W.Words.touched c.args.words.now) (g.W.Words.touched c.part-children.new.words)
 inside g t c =
     let sh = c.shape_of.ensures in
     let mid = c.left_sum-middle.ensures in

@@ -6,52 +6,52 @@ use Rattle.rope.proofs.joining.+attach.Given.{Over}
 use Rattle.rope.proofs.joining.+attach.Goals.{After-halve}
 use Rattle.rope.proofs.joining.+attach.Goals as goal
 
-pub shapes_of-s-requires-clause-first : goal.shapes_of-s-requires-clause-first
-shapes_of-s-requires-clause-first g t c = first_some c.requires c.requires.fit.fit
+pub shapes_of-shapes-requires-clause-first : goal.shapes_of-shapes-requires-clause-first
+shapes_of-shapes-requires-clause-first g t c = first_some c.requires c.requires.fit.fit
 
-pub shapes_of-s-requires-clause-second : goal.shapes_of-s-requires-clause-second
-shapes_of-s-requires-clause-second g t c = second_some c.requires c.requires.fit.fit
+pub shapes_of-shapes-requires-clause-second : goal.shapes_of-shapes-requires-clause-second
+shapes_of-shapes-requires-clause-second g t c = second_some c.requires c.requires.fit.fit
 
 pub merge-requires : goal.merge-requires
 merge-requires g t c =
-    let s = c.shapes_of-s.ensures in
-    rw (s.same, c.ordered.ensures) (two_ordered c.args.side _ _ leaves_swap (onto_leaves c.args.side c.requires (host_one c.args.side c.requires s.first s.second c.if-s-eq1.true)))
+    let s = c.shapes_of-shapes.ensures in
+    rw (s.same, c.ordered.ensures) (two_ordered c.args.side _ _ leaves_swap (onto_leaves c.args.side c.requires (host_one c.args.side c.requires s.first s.second c.if-shapes-eq1.true)))
 
-pub returns-then-s-eq1-clause-joins : goal.returns-then-s-eq1-clause-joins
-returns-then-s-eq1-clause-joins g t c =
-    let s = c.shapes_of-s.ensures in
+pub returns-then-shapes-eq1-clause-joins : goal.returns-then-shapes-eq1-clause-joins
+returns-then-shapes-eq1-clause-joins g t c =
+    let s = c.shapes_of-shapes.ensures in
     let last = rw (s.same, c.ordered.ensures) at c.merge.ensures.joins in
-    record { runs = λ x. attached_leaf c.args.side x (host_one c.args.side x s.first s.second c.if-s-eq1.true) _ (joins_on c.args.side _ _ leaves_swap last) s.touches }
+    record { runs = λ x. attached_leaf c.args.side x (host_one c.args.side x s.first s.second c.if-shapes-eq1.true) _ (joins_on c.args.side _ _ leaves_swap last) s.touches }
 
 pub fits_beside-requires : goal.fits_beside-requires
-fits_beside-requires g t c = omega (arith, (c.shapes_of-s.ensures.second (second_some c.requires c.requires.fit.fit)).high, guest_low c.args.side c.requires)
+fits_beside-requires g t c = omega (arith, (c.shapes_of-shapes.ensures.second (second_some c.requires c.requires.fit.fit)).high, guest_low c.args.side c.requires)
 
 pub node_on-requires : goal.node_on-requires
-node_on-requires g t c = rw c.shapes_of-s.ensures.same (as_fit c.requires c.requires.fit.fit)
+node_on-requires g t c = rw c.shapes_of-shapes.ensures.same (as_fit c.requires c.requires.fit.fit)
 
 pub returns-then-fits_beside-clause-joins : goal.returns-then-fits_beside-clause-joins
 returns-then-fits_beside-clause-joins g t c =
-    let s = c.shapes_of-s.ensures in
+    let s = c.shapes_of-shapes.ensures in
     let last = rw s.same at c.node_on.ensures.joins in
     let side = c.args.side in
-    record { runs = λ x. attached_node side x (host_view side x s.first s.second c.if-s-eq1.false) _ (beside_is side x s.first s.second ∙ sym c.if-fits_beside.ensures) last s.touches }
+    record { runs = λ x. attached_node side x (host_view side x s.first s.second c.if-shapes-eq1.false) _ (beside_is side x s.first s.second ∙ sym c.if-fits_beside.ensures) last s.touches }
 
 pub halve-requires : goal.halve-requires
 halve-requires g t c =
-    let s = c.shapes_of-s.ensures in
-    rw s.same (host_opening c.args.side c.requires (host_view c.args.side c.requires s.first s.second c.if-s-eq1.false))
+    let s = c.shapes_of-shapes.ensures in
+    rw s.same (host_opening c.args.side c.requires (host_view c.args.side c.requires s.first s.second c.if-shapes-eq1.false))
 
 -- what is known of the children
 apart : (g : Over) (t : ℕ) (c : After-halve g t)
     → Apart c.args.side c.args.levels (g.W.Words.row c.args.words.now) (g.W.Words.row c.halve.new.words) c.args.host.0 c.args.guest.0 c.halve.result.0.0 c.halve.result.1.0 (g.W.Words.touched c.args.words.now) (g.W.Words.touched c.halve.new.words)
 apart g t c =
     let side = c.args.side in
-    let s = c.shapes_of-s.ensures in
+    let s = c.shapes_of-shapes.ensures in
     let h = c.halve.ensures in
     let cut = rw s.same at h.halved in
     let long = rw s.same at h.kept.long in
     record {
-      view = λ x. host_view side x s.first s.second c.if-s-eq1.false;
+      view = λ x. host_view side x s.first s.second c.if-shapes-eq1.false;
       far = λ x. beside_is side x s.first s.second ∙ sym c.if-fits_beside.ensures;
       cut = cut;
       long = long;
