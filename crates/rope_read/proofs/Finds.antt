@@ -1,31 +1,13 @@
 -- Where a byte stands, from where it stands in chunks.
-use Rattle.std.proofs.Common.{◌≡◌, ℕ, ◌+◌, ◌-◌, ◌<◌, ◌≤◌, ◌≢◌, List, ◌++◌, length, get_or, take, drop, sym, ap, ◌∙◌, subst, ⊎_elim, arith, length-append, length-drop, length-take}
-use borrow.Rule.Slice.PartMut.{post_of}
+use Rattle.std.proofs.Common.{◌≡◌, ℕ, ◌+◌, ◌-◌, ◌<◌, ◌≤◌, List, length, get_or, take, drop, sym, ap, ◌∙◌, subst, ⊎_elim, arith, length-take}
 use Rattle.std.proofs.lemmas.List.{get_or-take, get_or-drop}
-use Rattle.std.proofs.lemmas.Bool.{cases_lt, cases_eq}
+use Rattle.std.proofs.lemmas.Bool.{cases_lt}
 use Rattle.rope_read.specs.Finding.{Absent, First, Last}
 
 module _ (t : List ℕ) (c : ℕ) where
-  pub absent_none : (a b : ℕ) → b ≤ a → Absent t a b c
-  absent_none a b h = record { nowhere = λ i l k. absurd (omega arith) }
-
-  pub absent_on : (a k : ℕ) → Absent t a k c → get_or t k 0 ≢ c → Absent t a (k + 1) c
-  absent_on a k x ne =
-      record { nowhere = λ i l less e. ⊎_elim (λ (s : i ≡ k). ne (ap (λ z. get_or t z 0) (sym s) ∙ e)) (λ (s : i ≢ k). x.nowhere i l (omega arith) e) (cases_eq i k) }
-
-  pub absent_back : (k b : ℕ) → Absent t (k + 1) b c → get_or t k 0 ≢ c → Absent t k b c
-  absent_back k b x ne =
-      record { nowhere = λ i l less e. ⊎_elim (λ (s : i ≡ k). ne (ap (λ z. get_or t z 0) (sym s) ∙ e)) (λ (s : i ≢ k). x.nowhere i (omega arith) less e) (cases_eq i k) }
-
   pub absent_join : (a k b : ℕ) → Absent t a k c → Absent t k b c → Absent t a b c
   absent_join a k b x y =
       record { nowhere = λ i l less. ⊎_elim (λ (s : i < k). x.nowhere i l s) (λ (s : k ≤ i). y.nowhere i s less) (cases_lt i k) }
-
-  pub first_is : (a b k : ℕ) → a ≤ k → k < b → Absent t a k c → get_or t k 0 ≡ c → First t a b c k
-  first_is a b k l h x e = record { from = l; inside = h; here = e; before = x.nowhere }
-
-  pub last_is : (a b k : ℕ) → a ≤ k → k < b → Absent t (k + 1) b c → get_or t k 0 ≡ c → Last t a b c k
-  last_is a b k l h x e = record { from = l; inside = h; here = e; behind = λ i less. x.nowhere i (omega arith) }
 
   -- of n bytes from a place on
   module _ (at n : ℕ) where
@@ -61,26 +43,25 @@ module _ (t : List ℕ) (c : ℕ) where
 pub absent_up_to : (t : List ℕ) (c a k b : ℕ) → b ≤ k → Absent t a k c → Absent t a b c
 absent_up_to t c a k b h x = record { nowhere = λ i l less. x.nowhere i l (omega arith) }
 
-pub absent_before : (t : List ℕ) (c k b a : ℕ) → k ≤ a → Absent t k b c → Absent t a b c
-absent_before t c k b a h x = record { nowhere = λ i l less. x.nowhere i (omega arith) less }
+-- of n bytes that were read into the front of a buffer
+module _ (t : List ℕ) (c at n : ℕ) (buffer chunk : List ℕ) (le : n ≤ length buffer) (long : length chunk ≡ length (take n buffer)) (is : chunk ≡ take (length (take n buffer)) (drop at t)) where
+  part_long : length (take n buffer) ≡ n
+  part_long = omega (arith, length-take n buffer)
 
--- of a chunk that was read
-module _ (t : List ℕ) (c at n : ℕ) (chunk : List ℕ) (long : length chunk ≡ n) (is : chunk ≡ take n (drop at t)) where
+  chunk_is : chunk ≡ take n (drop at t)
+  chunk_is = is ∙ ap (λ k. take k (drop at t)) part_long
+
+  pub chunk_long : length chunk ≡ n
+  chunk_long = long ∙ part_long
+
   pub absent_read : Absent chunk 0 (length chunk) c → Absent t at (at + n) c
-  absent_read x = absent_chunk t c at n (subst (λ z. Absent z 0 n c) is (subst (λ k. Absent chunk 0 k c) long x))
+  absent_read x = absent_chunk t c at n (subst (λ z. Absent z 0 n c) chunk_is (subst (λ k. Absent chunk 0 k c) chunk_long x))
 
   pub first_read : (k : ℕ) → First chunk 0 (length chunk) c k → First t at (at + n) c (at + k)
-  first_read k x = first_chunk t c at n k (subst (λ z. First z 0 n c k) is (subst (λ j. First chunk 0 j c k) long x))
+  first_read k x = first_chunk t c at n k (subst (λ z. First z 0 n c k) chunk_is (subst (λ j. First chunk 0 j c k) chunk_long x))
 
   pub last_read : (k : ℕ) → Last chunk 0 (length chunk) c k → Last t at (at + n) c (at + k)
-  last_read k x = last_chunk t c at n k (subst (λ z. Last z 0 n c k) is (subst (λ j. Last chunk 0 j c k) long x))
-
--- the part of a buffer that takes n bytes
-pub chunk_long : (chunk : List ℕ) (n : ℕ) → length chunk ≡ 64 → n ≤ 64 → length (take (n - 0) chunk) ≡ n
-chunk_long chunk n long le = omega (arith, length-take (n - 0) chunk)
-
-pub buffer_long : (chunk x : List ℕ) (n : ℕ) → length chunk ≡ 64 → n ≤ 64 → length x ≡ length (take (n - 0) chunk) → length (x ++ post_of 0 (n - 0) chunk) ≡ 64
-buffer_long chunk x n long le is = omega (arith, chunk_long chunk n long le, length-append x (post_of 0 (n - 0) chunk), length-drop (n - 0) (drop 0 chunk), length-drop 0 chunk)
+  last_read k x = last_chunk t c at n k (subst (λ z. Last z 0 n c k) chunk_is (subst (λ j. Last chunk 0 j c k) chunk_long x))
 
 -- behind a part in which it doesn't stand, and before one
 module _ (t : List ℕ) (c a at b to : ℕ) where
