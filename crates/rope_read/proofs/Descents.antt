@@ -1,29 +1,22 @@
--- The steps of the way down a rope.
-use Rattle.std.proofs.Common.{◌≡◌, ℕ, ◌+◌, ◌-◌, ◌<◌, ◌≤◌, ◌≢◌, List, [], ◌++◌, length, sym, refl, ap, ◌∙◌, subst, ⊎_elim, arith, length-append}
+-- The steps of the way down a rope by one of its sums, while another is counted of the bytes that are passed.
+use Rattle.std.proofs.Common.{◌≡◌, ℕ, ◌+◌, ◌<◌, ◌≤◌, ◌≢◌, List, [], ◌++◌, length, sym, refl, ap, ◌∙◌, arith, length-append}
 use Rattle.std.proofs.lemmas.List.{append_assoc, append-nil}
-use Rattle.std.proofs.lemmas.Bool.{cases_lt}
 use Rattle.cells.specs.Steps.{LeftRead, RightRead}
 use Rattle.ropes.specs.Rope.{Rope, empty, leaf, node, bytes, height, Whole}
-use Rattle.ropes.specs.Layout.{sum_at, node_data}
+use Rattle.ropes.specs.Layout.{node_data}
 use Rattle.ropes.proofs.Joins.{inner_whole}
 use Rattle.ropes.proofs.Balance.{inner_some}
-use Rattle.ropes.proofs.Sums.{sum_append, sum_small}
+use Rattle.ropes.proofs.Ends.{inner_size}
 use Rattle.ropes.proofs.Cuts.{size_bytes}
 use Rattle.ropes.proofs.Depths.{height_low}
 use Rattle.rope_cells.specs.Coded.{code}
 use Rattle.rope_cells.specs.Lending.{Lends, LendsSome, LendsChildren}
-use Rattle.rope_cells.specs.Leaves.{LendsLeaf, LeafIs}
-use Rattle.rope_cells.specs.declared.leaves.Leaf.{Leaf}
+use Rattle.rope_cells.specs.Leaves.{LendsLeaf}
 use Rattle.rope_cells.proofs.Codes.{children_lent, children_whole, children_few}
 use Rattle.rope_read.specs.Text.{text}
-use Rattle.rope_read.specs.Descent.{Under, Leads, LeafReached}
-use Rattle.rope_read.specs.Locating.{Reaches, Located}
-use Rattle.rope_read.specs.declared.descent.Route.{Route}
-use Rattle.rope_read.specs.declared.descent.Part.{Part}
+use Rattle.rope_read.specs.Locating.{Located}
+use Rattle.rope_read.specs.declared.locating.Spot.{Spot}
 use Rattle.rope_read.proofs.Texts.{text_is}
-
-pub lends_same : (m m' : List ℕ) (p : ℕ) → m' ≡ m → Lends m p → Lends m' p
-lends_same m m' p e x = subst (λ z. Lends z p) (sym e) x
 
 -- a rope of one level is a leaf, and any other a node
 pub lends_leaf : (m : List ℕ) (p : ℕ) (x : Lends m p) → height x.rope ≡ 1 → LendsLeaf m p
@@ -34,17 +27,17 @@ lends_leaf m p x one = go x.rope refl one x.whole
     go (leaf b) e h w = record { lends = x; xs = b; is = e }
     go (node l r) e h w = absurd (omega (arith, inner_some l w.0))
 
-pub record Branch (m : List ℕ) (p levels : ℕ) : Type 0 where
+pub record Branch (m : List ℕ) (p high : ℕ) : Type 0 where
   pub children : LendsChildren m p
-  pub low : height (node children.left children.right) ≤ levels
+  pub low : height (node children.left children.right) ≤ high
 
-pub branch : (m : List ℕ) (p levels : ℕ) (x : Under m p levels) → height x.lends.rope ≢ 1 → Branch m p levels
-branch m p levels x more = go x.lends.rope refl x.some more x.low
+pub branch : (m : List ℕ) (p : ℕ) (x : LendsSome m p) → height x.lends.rope ≢ 1 → Branch m p (height x.lends.rope)
+branch m p x more = go x.lends.rope refl x.some more
   where
-    go : (t : Rope) → x.lends.rope ≡ t → 1 ≤ height t → height t ≢ 1 → height t ≤ levels → Branch m p levels
-    go empty e s h low = absurd (omega arith)
-    go (leaf b) e s h low = absurd (h refl)
-    go (node l r) e s h low = record { children = record { lends = x.lends; left = l; right = r; is = e }; low = low }
+    go : (t : Rope) → x.lends.rope ≡ t → 1 ≤ height t → height t ≢ 1 → Branch m p (height t)
+    go empty e s h = absurd (omega arith)
+    go (leaf b) e s h = absurd (h refl)
+    go (node l r) e s h = record { children = record { lends = x.lends; left = l; right = r; is = e }; low = omega arith }
 
 -- the text of a node
 module _ (m : List ℕ) (p : ℕ) (x : LendsChildren m p) where
@@ -85,133 +78,117 @@ module _ (m : List ℕ) (p : ℕ) (x : LendsChildren m p) where
   pub right_text : (q : ℕ) → RightRead m p q → text m q ≡ bytes r
   right_text q read = text_is m q (right_lends q read)
 
--- at a leaf the way ends
-pub reached_here : (m : List ℕ) (s : Part) (n : ℕ) (w : Route) (fuel : ℕ) (x : Under m s.rope.0 fuel) → height x.lends.rope ≡ 1 → Leads m s n w → LeafReached m s n w s
-reached_here m s n w fuel x one leads =
-    let y = lends_leaf m s.rope.0 x.lends one in
-    let is : text m s.rope.0 ≡ y.xs = text_is m s.rope.0 y.lends ∙ ap bytes y.is in
-    let none : (k : ℕ) → sum_at [] k ≡ 0 = λ k. omega (arith, sum_small [] k) in
+-- Of the rope p the part q is left to look in: the sum `by` reaches n there, and x and y are the sums of the bytes before it.
+pub record Down (by of : List ℕ → ℕ) (m : List ℕ) (p n q x y : ℕ) : Type 0 where
+  pub lends : Lends m q
+  pub some : 1 ≤ height lends.rope
+  pub before : List ℕ
+  pub behind : List ℕ
+  pub whole : text m p ≡ before ++ (bytes lends.rope ++ behind)
+  pub by_is : x ≡ by before
+  pub of_is : y ≡ of before
+  pub reach : n ≤ by before + by (bytes lends.rope)
+  pub late : 1 ≤ length before → by before < n
+
+pub lends_low : {m : List ℕ} {p : ℕ} (x : Lends m p) → height x.rope ≤ 35
+lends_low x = omega (arith, height_low x.rope x.whole x.few)
+
+pub down_all : (by of : List ℕ → ℕ) → ((a : List ℕ) → by a ≤ length a) → ((a : List ℕ) → of a ≤ length a) → (m : List ℕ) (p n : ℕ) → LendsSome m p → n ≤ by (text m p) → Down by of m p n p 0 0
+down_all by of small_by small_of m p n x reach =
+    let is = text_is m p x.lends in
     record {
+      lends = x.lends;
+      some = x.some;
       before = [];
-      leaf = y;
       behind = [];
-      whole = is ∙ sym (append-nil y.xs);
-      by_is = omega (arith, none w.by);
-      of_is = omega (arith, none w.of);
-      reach = omega (arith, leads.reach, ap (λ z. sum_at z w.by) is);
+      whole = is ∙ sym (append-nil (bytes x.lends.rope));
+      by_is = omega (arith, small_by []);
+      of_is = omega (arith, small_of []);
+      reach = omega (arith, ap by is);
       late = λ h. absurd (omega arith);
     }
 
-module _ (m : List ℕ) (s : Part) (n : ℕ) (w : Route) (leads : Leads m s n w) (x : LendsChildren m s.rope.0) (b : ℕ) (is_b : b ≡ sum_at (bytes x.left) w.by) where
-  abbrev p : ℕ
-  p = s.rope.0
+module _ {by of : List ℕ → ℕ} {m : List ℕ} {p n q x y : ℕ} (d : Down by of m p n q x y) where
+  abbrev pub down_some : LendsSome m q
+  down_some = record { lends = d.lends; some = d.some }
 
-  text_length : length (text m p) ≡ length (bytes x.left) + length (bytes x.right)
-  text_length = ap length (node_text m p x) ∙ length-append (bytes x.left) (bytes x.right)
+  pub located : (xs : List ℕ) → bytes d.lends.rope ≡ xs → (s : Spot) → s.leaf.items ≡ xs → s.by ≡ x → s.of ≡ y → Located by of (text m p) n s
+  located xs is s has is_x is_y =
+      let e : bytes d.lends.rope ≡ s.leaf.items = is ∙ sym has in
+      record {
+        before = d.before;
+        behind = d.behind;
+        whole = d.whole ∙ ap (λ z. d.before ++ (z ++ d.behind)) e;
+        by_is = is_x ∙ d.by_is;
+        of_is = is_y ∙ d.of_is;
+        reach = omega (arith, d.reach, ap by e);
+        late = d.late;
+      }
 
-  text_sum : (k : ℕ) → sum_at (text m p) k ≡ sum_at (bytes x.left) k + sum_at (bytes x.right) k
-  text_sum k = ap (λ z. sum_at z k) (node_text m p x) ∙ sum_append (bytes x.left) (bytes x.right) k
+  -- at a node it goes on
+  module _ (z : Branch m q (height d.lends.rope)) where
+    abbrev u : Rope
+    u = z.children.left
 
-  -- to the left
-  module _ (q : Part) (read : LeftRead m p q.rope.0) (by : q.by ≡ s.by) (of : q.of ≡ s.of) (le : n ≤ b) where
-    is_q : text m q.rope.0 ≡ bytes x.left
-    is_q = left_text m p x q.rope.0 read
+    abbrev v : Rope
+    v = z.children.right
 
-    pub leads_left : Leads m q n w
-    leads_left =
-        record {
-          known_by = leads.known_by;
-          known_of = leads.known_of;
-          reach = omega (arith, ap (λ z. sum_at z w.by) is_q);
-          few_by = omega (arith, ap length is_q, text_length, leads.few_by);
-          few_of = omega (arith, ap length is_q, text_length, leads.few_of);
-        }
+    pub is_node : bytes d.lends.rope ≡ bytes u ++ bytes v
+    is_node = sym (text_is m q d.lends) ∙ node_text m q z.children
 
-    pub reached_left : (r : Part) → LeafReached m q n w r → LeafReached m s n w r
-    reached_left r y =
-        let e : bytes x.left ≡ y.before ++ (y.leaf.xs ++ y.behind) = sym is_q ∙ y.whole in
-        record {
-          before = y.before;
-          leaf = y.leaf;
-          behind = y.behind ++ bytes x.right;
-          whole = node_text m p x ∙ (ap (λ z. z ++ bytes x.right) e ∙ simp append_assoc);
-          by_is = omega (arith, y.by_is);
-          of_is = omega (arith, y.of_is);
-          reach = y.reach;
-          late = y.late;
-        }
+    node_length : length (bytes d.lends.rope) ≡ length (bytes u) + length (bytes v)
+    node_length = ap length is_node ∙ length-append (bytes u) (bytes v)
 
-  -- to the right
-  module _ (o : ℕ) (is_o : o ≡ sum_at (bytes x.left) w.of) (q : Part) (read : RightRead m p q.rope.0) (by : q.by ≡ s.by + b) (of : q.of ≡ s.of + o) (gt : b < n) where
-    is_right : text m q.rope.0 ≡ bytes x.right
-    is_right = right_text m p x q.rope.0 read
+    whole_length : length (text m p) ≡ length d.before + (length (bytes u) + length (bytes v) + length d.behind)
+    whole_length = omega (arith, ap length d.whole, length-append d.before (bytes d.lends.rope ++ d.behind), length-append (bytes d.lends.rope) d.behind, node_length)
 
-    pub leads_right : Leads m q (n - b) w
-    leads_right =
-        record {
-          known_by = leads.known_by;
-          known_of = leads.known_of;
-          reach = omega (arith, ap (λ z. sum_at z w.by) is_right, text_sum w.by, leads.reach);
-          few_by = omega (arith, ap length is_right, text_length, leads.few_by, sum_small (bytes x.left) w.by);
-          few_of = omega (arith, ap length is_right, text_length, leads.few_of, sum_small (bytes x.left) w.of);
-        }
+    pub by_fits : ((a : List ℕ) → by a ≤ length a) → x + by (bytes u) ≤ length (text m p)
+    by_fits small = omega (arith, whole_length, d.by_is, small d.before, small (bytes u))
 
-    pub reached_right : (r : Part) → LeafReached m q (n - b) w r → LeafReached m s n w r
-    reached_right r y =
-        let e : bytes x.right ≡ y.before ++ (y.leaf.xs ++ y.behind) = sym is_right ∙ y.whole in
-        let sum_by = sum_append (bytes x.left) y.before w.by in
-        let sum_of = sum_append (bytes x.left) y.before w.of in
-        record {
-          before = bytes x.left ++ y.before;
-          leaf = y.leaf;
-          behind = y.behind;
-          whole = node_text m p x ∙ (ap (λ z. bytes x.left ++ z) e ∙ simp append_assoc);
-          by_is = omega (arith, y.by_is, sum_by);
-          of_is = omega (arith, y.of_is, sum_of);
-          reach = omega (arith, y.reach, sum_by);
-          late = λ h. ⊎_elim (λ (k : 0 < length y.before). omega (arith, y.late k, sum_by)) (λ (k : length y.before ≤ 0). omega (arith, sum_by, sum_small y.before w.by)) (cases_lt 0 (length y.before));
-        }
+    pub of_fits : ((a : List ℕ) → of a ≤ length a) → y + of (bytes u) ≤ length (text m p)
+    of_fits small = omega (arith, whole_length, d.of_is, small d.before, small (bytes u))
 
--- a child is lower than its node
-module _ (m : List ℕ) (p levels : ℕ) (x : Branch m p levels) where
-  pub left_under : (q : ℕ) → LeftRead m p q → Under m q (levels - 1)
-  left_under q read = record { lends = left_lends m p x.children q read; some = inner_some x.children.left (children_whole m p x.children).0; low = omega (arith, x.low) }
+    module _ {w : ℕ} (read : LeftRead m q w) where
+      pub left_shorter : length (text m w) < length (text m q)
+      left_shorter =
+          omega (arith, ap length (left_text m q z.children w read), ap length (text_is m q d.lends), node_length, size_bytes v, inner_size v (children_whole m q z.children).1)
 
-  pub right_under : (q : ℕ) → RightRead m p q → Under m q (levels - 1)
-  right_under q read = record { lends = right_lends m p x.children q read; some = inner_some x.children.right (children_whole m p x.children).1; low = omega (arith, x.low) }
+      pub left_lower : height u + 1 ≤ height d.lends.rope
+      left_lower = omega (arith, z.low)
 
-pub sum_bound : (m : List ℕ) (p k r : ℕ) (x : LendsChildren m p) → r ≡ sum_at (bytes x.left) k → r ≤ length (text m p)
-sum_bound m p k r x e = omega (arith, sum_small (bytes x.left) k, ap length (node_text m p x), length-append (bytes x.left) (bytes x.right))
+      abbrev pub down_left : n ≤ x + by (bytes u) → Down by of m p n w x y
+      down_left le =
+          record {
+            lends = left_lends m q z.children w read;
+            some = inner_some u (children_whole m q z.children).0;
+            before = d.before;
+            behind = bytes v ++ d.behind;
+            whole = d.whole ∙ (ap (λ b. d.before ++ (b ++ d.behind)) is_node ∙ simp append_assoc);
+            by_is = d.by_is;
+            of_is = d.of_is;
+            reach = omega (arith, d.by_is);
+            late = d.late;
+          }
 
--- from the top
-pub under_all : (m : List ℕ) (p : ℕ) → LendsSome m p → Under m p 35
-under_all m p x = record { lends = x.lends; some = x.some; low = omega (arith, height_low x.lends.rope x.lends.whole x.lends.few) }
+    module _ {w : ℕ} (read : RightRead m q w) where
+      pub right_shorter : length (text m w) < length (text m q)
+      right_shorter =
+          omega (arith, ap length (right_text m q z.children w read), ap length (text_is m q d.lends), node_length, size_bytes u, inner_size u (children_whole m q z.children).0)
 
-pub leads_all : (m : List ℕ) (p n : ℕ) (s : Part) (w : Route) → Lends m p → s.rope.0 ≡ p → s.by ≡ 0 → s.of ≡ 0 → Reaches (text m p) n w → Leads m s n w
-leads_all m p n s w x is by of y =
-    let e : text m s.rope.0 ≡ text m p = ap (text m) is in
-    let long : length (text m p) < 536870912 = omega (arith, ap length (text_is m p x), size_bytes x.rope, x.few) in
-    record {
-      known_by = y.known_by;
-      known_of = y.known_of;
-      reach = omega (arith, y.reach, ap (λ z. sum_at z w.by) e);
-      few_by = omega (arith, ap length e);
-      few_of = omega (arith, ap length e);
-    }
+      pub right_lower : height v + 1 ≤ height d.lends.rope
+      right_lower = omega (arith, z.low)
 
-pub located : (m : List ℕ) (s : Part) (n : ℕ) (w : Route) (r : Part) (a : Leaf) → s.by ≡ 0 → s.of ≡ 0 → (y : LeafReached m s n w r) → LeafIs a y.leaf.xs → Located (text m s.rope.0) n w (record { leaf = a; by = r.by; of = r.of })
-located m s n w r a by of y is =
-    record {
-      before = y.before;
-      here = y.leaf.xs;
-      behind = y.behind;
-      whole = y.whole;
-      leaf = is;
-      by_is = omega (arith, y.by_is);
-      of_is = omega (arith, y.of_is);
-      reach = y.reach;
-      late = y.late;
-    }
-
-pub leaf_same : (m m' : List ℕ) (p : ℕ) (a : Leaf) → m' ≡ m → ((x : LendsLeaf m' p) → LeafIs a x.xs) → (x : LendsLeaf m p) → LeafIs a x.xs
-leaf_same m m' p a e f = subst (λ z. (x : LendsLeaf z p) → LeafIs a x.xs) e f
+      abbrev pub down_right : ((a b : List ℕ) → by (a ++ b) ≡ by a + by b) → ((a b : List ℕ) → of (a ++ b) ≡ of a + of b) → {b o : ℕ} → b ≡ by (bytes u) → o ≡ of (bytes u) → x + b < n → Down by of m p n w (x + b) (y + o)
+      down_right add_by add_of is_b is_o less =
+          let before_by = add_by d.before (bytes u) in
+          record {
+            lends = right_lends m q z.children w read;
+            some = inner_some v (children_whole m q z.children).1;
+            before = d.before ++ bytes u;
+            behind = d.behind;
+            whole = d.whole ∙ (ap (λ b. d.before ++ (b ++ d.behind)) is_node ∙ simp append_assoc);
+            by_is = omega (arith, d.by_is, before_by);
+            of_is = omega (arith, d.of_is, add_of d.before (bytes u));
+            reach = omega (arith, d.reach, before_by, ap by is_node, add_by (bytes u) (bytes v));
+            late = λ h. omega (arith, d.by_is, before_by);
+          }

@@ -1,24 +1,18 @@
 -- Ranges of a rope, by its parts.
-use Rattle.std.proofs.Common.{◌≡◌, ℕ, ◌+◌, ◌-◌, ◌<◌, ◌≤◌, cond, eqb, ltb, ◌≢◌, List, [], ◌∷◌, ◌++◌, length, take, drop, sym, refl, ap, ◌∙◌, ⊎_elim, arith, length-append, length-drop, length-take, take_all}
-use borrow.Rule.Slice.PartMut.{put_mid, post_of}
-use lib.Seq.{drop-append_seam, take-append-le, take-append-add, drop-append-le, drop-append-add}
-use Rattle.std.proofs.lemmas.List.{ext_get_or, get_or-take, get_or-drop, take_at, drop_all, append-nil}
+use Rattle.std.proofs.Common.{◌≡◌, ℕ, ◌+◌, ◌-◌, ◌<◌, ◌≤◌, cond, eqb, ltb, ◌≢◌, List, [], ◌∷◌, ◌++◌, length, take, drop, sym, refl, ap, ◌∙◌, ⊎_elim, arith, length-drop, take_all}
+use lib.Seq.{take-append-le, take-append-add, drop-append-le, drop-append-add}
 use Rattle.std.proofs.lemmas.Bool.{cases_lt, eq-eqb, ne_eqb, lt-ltb, le-ltb}
 use Rattle.std.proofs.lemmas.Bool.Decides.{nat_tests}
 use Rattle.cells.specs.Steps.{LeftRead, RightRead}
 use Rattle.ropes.specs.Rope.{Rope, empty, leaf, node, bytes, size, height, Whole}
-use Rattle.ropes.specs.Layout.{sum_at}
 use Rattle.ropes.proofs.Balance.{inner_some}
 use Rattle.ropes.proofs.Cuts.{size_bytes}
 use Rattle.ropes.proofs.Ends.{inner_size}
-use Rattle.ropes.proofs.Depths.{height_low}
-use Rattle.ropes.proofs.Sums.{sum_first}
 use Rattle.rope_cells.specs.Lending.{Lends, LendsSome, LendsChildren, ShapeIs}
-use Rattle.rope_cells.specs.Leaves.{LendsLeaf, LeafIs}
-use Rattle.rope_cells.specs.declared.leaves.Leaf.{Leaf}
+use Rattle.rope_cells.specs.Leaves.{LendsLeaf}
 use Rattle.rope_cells.specs.declared.reading.Shape.{Shape}
 use Rattle.rope_read.specs.Text.{text}
-use Rattle.rope_read.specs.Ranges.{Sized, Filled, tag_price, path_price, price}
+use Rattle.rope_read.specs.Ranges.{Sized, tag_price, path_price, price}
 use Rattle.rope_read.proofs.Texts.{text_is}
 use Rattle.rope_read.proofs.Descents.{lends_leaf, node_text, left_lends, right_lends, left_text, right_text}
 
@@ -41,6 +35,9 @@ sized_some (node u v) n w e l = omega arith
 pub some_of : (m : List ℕ) (p n : ℕ) → Sized m p n → LendsSome m p
 some_of m p n x = record { lends = x.lends; some = sized_some x.lends.rope n x.lends.whole x.long x.large }
 
+pub sized_high : {m : List ℕ} {p n : ℕ} (x : Sized m p n) → 1 ≤ height x.lends.rope
+sized_high {n = n} x = sized_some x.lends.rope n x.lends.whole x.long x.large
+
 -- the number of bytes tells a leaf from a node, but at 48
 pub told_by_size : (m : List ℕ) (p n : ℕ) → n ≢ 48 → (x : Sized m p n) → ltb n 48 ≡ eqb (height x.lends.rope) 1
 told_by_size m p n ne x =
@@ -57,67 +54,46 @@ pub tag_price_one : (n : ℕ) → n ≡ 48 → tag_price n ≡ 1
 unfolding tag_price
 tag_price_one n e = ap (λ b. cond b 1 0) (eq-eqb n 48 e)
 
-pub tag_price_none : (n : ℕ) → n ≢ 48 → tag_price n ≡ 0
-unfolding tag_price
-tag_price_none n e = ap (λ b. cond b 1 0) (ne_eqb n 48 e)
-
--- a range of a leaf that was read
-pub leaf_range : (a : Leaf) (xs : List ℕ) (from n k : ℕ) → k ≡ n → LeafIs a xs → from + n ≤ length xs → take k (drop from a.bytes) ≡ take n (drop from xs)
-leaf_range a xs from n k is_k is h =
-    let b = is.few in
-    let r = is.room in
-    let l : length (take k (drop from a.bytes)) ≡ n = omega (arith, length-take k (drop from a.bytes), length-drop from a.bytes) in
-    ext_get_or 0 (take k (drop from a.bytes)) (take n (drop from xs)) (omega (arith, length-take n (drop from xs), length-drop from xs))
-    (λ i less.
-    let lt : i < n = omega arith in
-    get_or-take k (drop from a.bytes) i 0 (omega arith)
-    ∙ (get_or-drop from a.bytes i 0
-    ∙ (is.each (from + i) (omega arith)
-    ∙ (sym (get_or-drop from xs i 0) ∙ sym (get_or-take n (drop from xs) i 0 lt)))))
-
--- What the parts cost, from what the whole may cost.
-module _ (f n mid from k : ℕ) (some : 1 ≤ f) (left : 24 ≤ mid) (right : 24 ≤ n - mid) where
-  pub price_left : from + k ≤ mid → tag_price n + 2 + price (f - 1) mid from k ≤ price f n from k
+-- What the parts cost, from what the whole may cost. The part is lower than the whole.
+module _ (f n mid from k : ℕ) (left : 24 ≤ mid) (right : 24 ≤ n - mid) where
+  pub price_left : (g : ℕ) → g + 1 ≤ f → from + k ≤ mid → tag_price n + 2 + price g mid from k ≤ price f n from k
   unfolding tag_price path_price price
-  price_left h = grind (arith, nat_tests)
+  price_left g low h = grind (arith, nat_tests)
 
-  pub price_right : mid ≤ from → from + k ≤ n → tag_price n + 2 + price (f - 1) (n - mid) (from - mid) k ≤ price f n from k
+  pub price_right : (g : ℕ) → g + 1 ≤ f → mid ≤ from → from + k ≤ n → tag_price n + 2 + price g (n - mid) (from - mid) k ≤ price f n from k
   unfolding tag_price path_price price
-  price_right h l = grind (arith, nat_tests)
+  price_right g low h l = grind (arith, nat_tests)
 
-  pub price_both : from < mid → mid < from + k → from + k ≤ n → tag_price n + price (f - 1) mid from (mid - from) + price (f - 1) (n - mid) 0 (from + k - mid) ≤ 1 + price f n from k
+  pub price_both : (g h : ℕ) → g + 1 ≤ f → h + 1 ≤ f → from < mid → mid < from + k → from + k ≤ n → tag_price n + price g mid from (mid - from) + price h (n - mid) 0 (from + k - mid) ≤ 1 + price f n from k
   unfolding tag_price path_price price
-  price_both h l e = grind (arith, nat_tests)
+  price_both g h low_left low_right less more e = grind (arith, nat_tests)
 
 pub price_leaf : (f n from k : ℕ) → 1 ≤ f → 24 ≤ n → from + k ≤ n → tag_price n + 17 ≤ price f n from k
 unfolding tag_price path_price price
 price_leaf f n from k some large h = grind (arith, nat_tests)
 
-pub price_all : (n from k : ℕ) → price 35 n from k ≤ k + 172
+pub price_all : (f n from k : ℕ) → f ≤ 35 → price f n from k ≤ k + 172
 unfolding tag_price path_price price
-price_all n from k = grind (arith, nat_tests)
+price_all f n from k low = grind (arith, nat_tests)
 
 -- a node, by the number of its bytes
-pub record Forked (m : List ℕ) (p n levels : ℕ) : Type 0 where
+pub record Forked (m : List ℕ) (p n high : ℕ) : Type 0 where
   pub children : LendsChildren m p
-  pub low : height (node children.left children.right) ≤ levels
+  pub low : height (node children.left children.right) ≤ high
   pub long : size children.left + size children.right ≡ n
   pub left : 24 ≤ size children.left
   pub right : 24 ≤ size children.right
 
-pub forked : (m : List ℕ) (p n levels : ℕ) (x : Filled m p n levels) → height x.sized.lends.rope ≢ 1 → Forked m p n levels
-forked m p n levels x more = go x.sized.lends.rope refl more x.low x.sized.long x.sized.lends.whole
+pub forked : {m : List ℕ} {p n : ℕ} (x : Sized m p n) → height x.lends.rope ≢ 1 → Forked m p n (height x.lends.rope)
+forked {m} {p} {n} x more = go x.lends.rope refl more x.long x.lends.whole
   where
-    go : (t : Rope) → x.sized.lends.rope ≡ t → height t ≢ 1 → height t ≤ levels → size t ≡ n → Whole t → Forked m p n levels
-    go empty e h low long w = absurd (omega (arith, x.sized.large))
-    go (leaf b) e h low long w = absurd (h refl)
-    go (node l r) e h low long w =
-        record { children = record { lends = x.sized.lends; left = l; right = r; is = e }; low = low; long = long; left = inner_size l w.0; right = inner_size r w.1 }
+    go : (t : Rope) → x.lends.rope ≡ t → height t ≢ 1 → size t ≡ n → Whole t → Forked m p n (height t)
+    go empty e h long w = absurd (omega (arith, x.large))
+    go (leaf b) e h long w = absurd (h refl)
+    go (node l r) e h long w =
+        record { children = record { lends = x.lends; left = l; right = r; is = e }; low = omega arith; long = long; left = inner_size l w.0; right = inner_size r w.1 }
 
-pub levels_some : (m : List ℕ) (p n levels : ℕ) → Filled m p n levels → 1 ≤ levels
-levels_some m p n levels x = omega (arith, sized_some x.sized.lends.rope n x.sized.lends.whole x.sized.long x.sized.large, x.low)
-
-module _ (m : List ℕ) (p n levels : ℕ) (x : Forked m p n levels) (mid : ℕ) (is : mid ≡ sum_at (bytes x.children.left) 0) where
+module _ {m : List ℕ} {p n high : ℕ} (x : Forked m p n high) {mid : ℕ} (is : mid ≡ length (bytes x.children.left)) where
   abbrev l : Rope
   l = x.children.left
 
@@ -125,73 +101,54 @@ module _ (m : List ℕ) (p n levels : ℕ) (x : Forked m p n levels) (mid : ℕ)
   r = x.children.right
 
   pub middle_is : mid ≡ size l
-  middle_is = is ∙ (sum_first (bytes l) ∙ sym (size_bytes l))
-
-  middle_length : length (bytes l) ≡ mid
-  middle_length = sym (is ∙ sum_first (bytes l))
+  middle_is = is ∙ sym (size_bytes l)
 
   pub middle_bounds : (24 ≤ mid) × (24 ≤ n - mid) × (mid ≤ n)
   middle_bounds = (omega (arith, middle_is, x.left), omega (arith, middle_is, x.right, x.long), omega (arith, middle_is, x.long))
 
-  pub left_filled : (q : ℕ) → LeftRead m p q → Filled m q mid (levels - 1)
-  left_filled q read =
-      record { sized = record { lends = left_lends m p x.children q read; long = sym middle_is; large = middle_bounds.0 }; low = omega (arith, x.low) }
+  abbrev pub left_sized : {q : ℕ} → LeftRead m p q → Sized m q mid
+  left_sized {q} read = record { lends = left_lends m p x.children q read; long = sym middle_is; large = middle_bounds.0 }
 
-  pub right_filled : (q : ℕ) → RightRead m p q → Filled m q (n - mid) (levels - 1)
-  right_filled q read =
-      record { sized = record { lends = right_lends m p x.children q read; long = omega (arith, middle_is, x.long); large = middle_bounds.1 }; low = omega (arith, x.low) }
+  abbrev pub right_sized : {q : ℕ} → RightRead m p q → Sized m q (n - mid)
+  right_sized {q} read = record { lends = right_lends m p x.children q read; long = omega (arith, middle_is, x.long); large = middle_bounds.1 }
+
+  pub left_low : height l + 1 ≤ high
+  left_low = omega (arith, x.low)
+
+  pub right_low : height r + 1 ≤ high
+  right_low = omega (arith, x.low)
 
   range_all : (from k : ℕ) → take k (drop from (text m p)) ≡ take k (drop from (bytes l ++ bytes r))
   range_all from k = ap (λ z. take k (drop from z)) (node_text m p x.children)
 
-  pub range_left : (q from k : ℕ) → LeftRead m p q → from + k ≤ mid → take k (drop from (text m q)) ≡ take k (drop from (text m p))
-  range_left q from k read h =
-      let long = middle_length in
+  pub range_left : {q : ℕ} (from k : ℕ) → LeftRead m p q → from + k ≤ mid → take k (drop from (text m q)) ≡ take k (drop from (text m p))
+  range_left {q} from k read h =
+      let long = is in
       ap (λ z. take k (drop from z)) (left_text m p x.children q read)
       ∙ (sym (take-append-le k (drop from (bytes l)) (bytes r) (omega (arith, length-drop from (bytes l))))
       ∙ (ap (take k) (sym (drop-append-le from (bytes l) (bytes r) (omega arith))) ∙ sym (range_all from k)))
 
-  pub range_right : (q from k : ℕ) → RightRead m p q → mid ≤ from → take k (drop (from - mid) (text m q)) ≡ take k (drop from (text m p))
-  range_right q from k read h =
-      let e : length (bytes l) + (from - mid) ≡ from = omega (arith, middle_length) in
+  pub range_right : {q : ℕ} (from k : ℕ) → RightRead m p q → mid ≤ from → take k (drop (from - mid) (text m q)) ≡ take k (drop from (text m p))
+  range_right {q} from k read h =
+      let e : length (bytes l) + (from - mid) ≡ from = omega (arith, is) in
       ap (λ z. take k (drop (from - mid) z)) (right_text m p x.children q read)
       ∙ (ap (take k) (sym (drop-append-add (bytes l) (bytes r) (from - mid)))
       ∙ (ap (λ z. take k (drop z (bytes l ++ bytes r))) e ∙ sym (range_all from k)))
 
-  pub range_both : (q s from k : ℕ) → LeftRead m p q → RightRead m p s → from ≤ mid → mid ≤ from + k → take (mid - from) (drop from (text m q)) ++ take (from + k - mid) (drop 0 (text m s)) ≡ take k (drop from (text m p))
-  range_both q s from k left_read right_read h j =
+  pub range_both : {q s : ℕ} (from k : ℕ) → LeftRead m p q → RightRead m p s → from ≤ mid → mid ≤ from + k → take (mid - from) (drop from (text m q)) ++ take (from + k - mid) (drop 0 (text m s)) ≡ take k (drop from (text m p))
+  range_both {q} {s} from k left_read right_read h j =
       let front = drop from (bytes l) in
-      let long : length front ≡ mid - from = omega (arith, length-drop from (bytes l), middle_length) in
+      let long : length front ≡ mid - from = omega (arith, length-drop from (bytes l), is) in
       let e : length front + (from + k - mid) ≡ k = omega arith in
       ap (λ z. take (mid - from) (drop from z) ++ take (from + k - mid) (drop 0 (text m s))) (left_text m p x.children q left_read)
       ∙ (ap (λ z. z ++ take (from + k - mid) (drop 0 (text m s))) (take_all (mid - from) front (omega arith))
       ∙ (ap (λ z. front ++ take (from + k - mid) z) (right_text m p x.children s right_read)
       ∙ (sym (take-append-add front (bytes r) (from + k - mid))
       ∙ (ap (λ z. take z (front ++ bytes r)) e
-      ∙ (ap (take k) (sym (drop-append-le from (bytes l) (bytes r) (omega (arith, middle_length)))) ∙ sym (range_all from k))))))
+      ∙ (ap (take k) (sym (drop-append-le from (bytes l) (bytes r) (omega (arith, is)))) ∙ sym (range_all from k))))))
 
 pub sized_text : (m : List ℕ) (p n : ℕ) (x : Sized m p n) → length (text m p) ≡ n
 sized_text m p n x = ap length (text_is m p x.lends) ∙ (sym (size_bytes x.lends.rope) ∙ x.long)
-
--- a buffer of which both parts were read
-pub part_length : (into : List ℕ) (cut k : ℕ) → length into ≡ k → cut ≤ k → length (take (cut - 0) into) ≡ cut
-part_length into cut k long le = omega (arith, length-take (cut - 0) into)
-
-pub rest_length : (into x : List ℕ) (cut k : ℕ) → length into ≡ k → cut ≤ k → length x ≡ length (take (cut - 0) into) → length (take (k - cut) (drop cut (x ++ post_of 0 (cut - 0) into))) ≡ k - cut
-rest_length into x cut k long le is =
-    let rest = post_of 0 (cut - 0) into in
-    let a : length x ≡ cut = is ∙ part_length into cut k long le in
-    omega (arith, length-take (k - cut) (drop cut (x ++ rest)), length-drop cut (x ++ rest), length-append x rest, length-drop (cut - 0) (drop 0 into), length-drop 0 into)
-
-pub put_both : (into x y : List ℕ) (cut k : ℕ) → length into ≡ k → cut ≤ k → length x ≡ length (take (cut - 0) into) → put_mid cut (k - cut) (x ++ post_of 0 (cut - 0) into) y ≡ x ++ y
-put_both into x y cut k long le is =
-    let rest = post_of 0 (cut - 0) into in
-    let a : length x ≡ cut = is ∙ part_length into cut k long le in
-    let behind : drop cut (x ++ rest) ≡ rest = ap (λ z. drop z (x ++ rest)) (sym a) ∙ drop-append_seam x rest in
-    let none : drop (k - cut) rest ≡ [] = drop_all (k - cut) rest (omega (arith, length-drop (cut - 0) (drop 0 into), length-drop 0 into)) in
-    ap (λ z. z ++ (y ++ drop (k - cut) (drop cut (x ++ rest)))) (take_at x rest cut a)
-    ∙ (ap (λ z. x ++ (y ++ drop (k - cut) z)) behind
-    ∙ (ap (λ z. x ++ (y ++ z)) none ∙ ap (λ z. x ++ z) (append-nil y)))
 
 -- The whole rope.
 
@@ -210,7 +167,5 @@ short_leaf m p x few some = lends_leaf m p x (go x.rope x.whole (omega (arith, i
     go (leaf b) w f s = refl
     go (node u v) w f s = absurd (omega (arith, inner_size u w.0, inner_size v w.1))
 
-pub filled_all : (m : List ℕ) (p n : ℕ) (x : Lends m p) → n ≡ length (text m p) → 24 ≤ n → Filled m p n 35
-filled_all m p n x is large =
-    let e : size x.rope ≡ n = sym (is ∙ (ap length (text_is m p x) ∙ sym (size_bytes x.rope))) in
-    record { sized = record { lends = x; long = e; large = large }; low = omega (arith, height_low x.rope x.whole x.few) }
+pub sized_all : {m : List ℕ} {p n : ℕ} (x : Lends m p) → n ≡ length (text m p) → 24 ≤ n → Sized m p n
+sized_all {m} {p} x is large = record { lends = x; long = sym (is ∙ (ap length (text_is m p x) ∙ sym (size_bytes x.rope))); large = large }

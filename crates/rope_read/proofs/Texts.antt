@@ -8,11 +8,12 @@ use Rattle.ropes.specs.Rope.{Rope, empty, leaf, node, bytes, height, Octets, Who
 use Rattle.ropes.specs.Layout.{byte_of, leaf_data, node_data}
 use Rattle.ropes.proofs.Packs.{byte_of_word_at}
 use Rattle.ropes.proofs.Joins.{inner_whole}
+use Rattle.ropes.proofs.Cuts.{size_bytes}
 use Rattle.ropes.proofs.Depths.{height_low}
 use Rattle.rope_cells.specs.Coded.{code}
-use Rattle.rope_cells.specs.Lending.{Lends}
+use Rattle.rope_cells.specs.Lending.{Lends, LendsSome}
 use Rattle.rope_cells.proofs.Packings.{leaf_first, leaf_word, node_first}
-use Rattle.rope_cells.proofs.Codes.{leaf_tag_low, node_tag_low}
+use Rattle.rope_cells.proofs.Codes.{leaf_tag_low, node_tag_low, lends_some, none_empty}
 use Rattle.rope_read.specs.Text.{leaf_bytes, text_within, text}
 
 -- data word k of a cell
@@ -80,3 +81,13 @@ within_is (suc n) m p (node l r) low ok v =
 pub text_is : (m : List ℕ) (p : ℕ) (x : Lends m p) → text m p ≡ bytes x.rope
 unfolding text
 text_is m p x = within_is 36 m p x.rope (omega (arith, height_low x.rope x.whole x.few)) x.whole x.lent.stands
+
+-- a text of no reference is empty, and one that isn't empty has one
+pub text_none : (m : List ℕ) (p : ℕ) → p ≡ 0 → Lends m p → text m p ≡ []
+text_none m p e x = text_is m p x ∙ ap bytes (none_empty m p x.rope e x.lent.stands)
+
+pub inside_some : (m : List ℕ) (p at : ℕ) → Lends m p → at < length (text m p) → LendsSome m p
+inside_some m p at x h = lends_some m p (λ e. omega (arith, ap length (text_none m p e x))) x
+
+pub text_few : (m : List ℕ) (p : ℕ) → Lends m p → length (text m p) < 536870912
+text_few m p x = omega (arith, ap length (text_is m p x), size_bytes x.rope, x.few)

@@ -1,6 +1,5 @@
 pub mod Text
 pub mod Reading
-pub mod Descent
 pub mod Locating
 pub mod Ranges
 pub mod Finding

@@ -1,6 +1,6 @@
 -- Reading a range of a rope, and what it costs.
 use Rattle.std.specs.Prelude.{◌≡◌, ℕ, ◌+◌, ◌*◌, ◌≤◌, cond, List, ◌==◌, nat_lt}
-use Rattle.ropes.specs.Rope.{height, size, leaf_min}
+use Rattle.ropes.specs.Rope.{size, leaf_min}
 use Rattle.rope_cells.specs.Lending.{Lends}
 
 -- p refers to a rope of so many bytes, which may stand beside others
@@ -9,16 +9,11 @@ pub record Sized (m : List ℕ) (p n : ℕ) : Type 0 where
   pub long : size lends.rope ≡ n
   pub large : leaf_min ≤ n
 
--- and is not higher than so many levels
-pub record Filled (m : List ℕ) (p n levels : ℕ) : Type 0 where
-  pub sized : Sized m p n
-  pub low : height sized.lends.rope ≤ levels
-
 -- a rope of 48 bytes is a leaf or has two: its cell is asked
 unfoldable pub tag_price : ℕ → ℕ
 tag_price n = cond (n == 48) 1 0
 
--- what the path to place a costs in a rope of n bytes, where the range has an end there and the rope has none, at b
+-- what the path to place a costs in a rope of so many levels and n bytes, where the range has an end there and the rope has none, at b
 unfoldable pub path_price : ℕ → ℕ → ℕ → ℕ → ℕ
 path_price levels n a b = cond (a == b) 0 (2 * levels + 15 + cond (nat_lt n 48) 0 1)
 

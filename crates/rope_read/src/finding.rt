@@ -33,6 +33,8 @@ fn last_in(chunk: &[u8], byte: u8) -> Option<usize>
     chunk.iter().rposition(|b| *b == byte)
 }
 
+// Kept: `find` and `find_back` stay two loops: each counts its chunks from its own end, as its cost says, and one loop for both would need a trait of two ends with their places, what they find and its laws.
+
 /// The place of the first byte `byte` from place `from` up to place `to`.
 pub fn find<W: Words>(words: &mut W, p: Ref, from: u32, to: u32, byte: u8) -> Option<u32>
     requires rope { Lends (W.Words.row words.old) p.0 }

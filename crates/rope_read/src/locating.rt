@@ -1,42 +1,45 @@
-//! The leaf of a rope in which a sum is reached, with its bytes.
+//! The leaf of a rope in which a sum is reached, with its bytes and what is summed before it.
 ghost use Rattle.std.specs.Prelude.{◌≡◌, ℕ, ◌+◌, ◌<◌, ◌≤◌};
 ghost use Rattle.rope_cells.specs.Lending.{LendsSome};
 ghost use Rattle.rope_read.specs.Text.{text};
-ghost use Rattle.rope_read.specs.Locating.{Reaches, Located};
+ghost use Rattle.rope_read.specs.Locating.{Located};
 
-use crate::descent::{Part, Route, descend};
-use cells::Ref;
-use rope_cells::{Leaf, read_leaf};
+use cells::{Ref, left, right};
+use rope_cells::{Leaf, Sum, left_sum, read_leaf, shape_of};
 use words::Words;
 
-/// No rope has more levels than this.
-const LEVELS: u32 = 35;
-
-/// A leaf of a rope, and both sums of the bytes before it.
-#[derive(Clone, Copy)]
+/// A leaf of a rope, and two sums of the bytes before it.
+#[derive(Drop)]
 pub struct Spot {
     pub leaf: Leaf,
     pub by: u32,
     pub of: u32,
 }
 
-/// The leaf of the rope `p` up to whose end the first sum is `n` or more, and before which it is less.
-pub fn locate<W: Words>(words: &mut W, p: Ref, n: u32, route: Route) -> Spot
+/// The leaf of the rope `p` up to whose end the sum `By` is `n` or more, and before which it is less.
+pub fn locate<By: Sum, Of: Sum, W: Words>(words: &mut W, p: Ref, n: u32) -> Spot
     requires rope { LendsSome (W.Words.row words.old) p.0 }
-    requires reaches { Reaches (text (W.Words.row words.old) p.0) n route }
-    ensures value { Located (text (W.Words.row words.old) p.0) n route result }
+    requires reaches { n ≤ By.Sum.sums (text (W.Words.row words.old) p.0) }
+    ensures value { Located By.Sum.sums Of.Sum.sums (text (W.Words.row words.old) p.0) n result }
     ensures same { W.Words.row words.new ≡ W.Words.row words.old }
     ensures touches { W.touched words.new ≤ W.touched words.old + 153 }
 {
-    let whole = Part {
-        rope: p,
-        by: 0,
-        of: 0,
-    };
-    let part = descend(words, whole, n, route, LEVELS);
+    let mut part = p;
+    let mut by = 0;
+    let mut of = 0;
+    while shape_of(words, part).height > 1 {
+        let up_to = by + left_sum::<By, W>(words, part);
+        if n <= up_to {
+            part = left(words, part);
+        } else {
+            by = up_to;
+            of += left_sum::<Of, W>(words, part);
+            part = right(words, part);
+        }
+    }
     Spot {
-        leaf: read_leaf(words, part.rope),
-        by: part.by,
-        of: part.of,
+        leaf: read_leaf(words, part),
+        by,
+        of,
     }
 }

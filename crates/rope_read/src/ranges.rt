@@ -4,20 +4,15 @@ ghost use Rattle.ropes.specs.Rope.{height};
 ghost use Rattle.rope_cells.specs.Lending.{Lends};
 ghost use Rattle.rope_cells.specs.Leaves.{LendsLeaf};
 ghost use Rattle.rope_read.specs.Text.{text};
-ghost use Rattle.rope_read.specs.Ranges.{Sized, Filled, tag_price, price};
+ghost use Rattle.rope_read.specs.Ranges.{Sized, tag_price, price};
 
 use crate::totals::len;
 use cells::{Ref, left, right};
-use rope_cells::{Leaf, left_sum, read_leaf, shape_of};
+use rope_cells::{Bytes, LEAF_MIN, left_sum, read_leaf, shape_of};
 use words::Words;
 
-/// No rope has more levels than this.
-const LEVELS: u32 = 35;
-
-/// How many bytes a leaf has at least beside other leaves, and how many two such leaves have.
-const LEAF_MIN: u32 = 24;
-
-const TWO_LEAVES: u32 = 48;
+/// How many bytes two leaves have at least.
+const TWO_LEAVES: u32 = 2 * LEAF_MIN as u32;
 
 /// Whether a rope of `size` bytes is a leaf. Its cell is read only where the number of its bytes doesn't tell.
 fn is_leaf<W: Words>(words: &mut W, p: Ref, size: u32) -> bool
@@ -26,19 +21,11 @@ fn is_leaf<W: Words>(words: &mut W, p: Ref, size: u32) -> bool
     ensures same { W.Words.row words.new ≡ W.Words.row words.old }
     ensures touches { W.touched words.new ≤ W.touched words.old + tag_price size }
 {
-    if size != TWO_LEAVES {
-        return size < TWO_LEAVES;
+    if size == TWO_LEAVES {
+        shape_of(words, p).height == 1
+    } else {
+        size < TWO_LEAVES
     }
-    shape_of(words, p).height == 1
-}
-
-/// Copies the bytes of a leaf from index `from` on.
-fn copy_part(leaf: &Leaf, from: usize, into: &mut [u8])
-    requires inside { from + length into.old ≤ length leaf.now.bytes }
-    requires few { length leaf.now.bytes ≤ 48 }
-    ensures { into.new ≡ take (length into.old) (drop from leaf.now.bytes) }
-{
-    into.copy_from_slice(&leaf.bytes[from..from + into.len()]);
 }
 
 /// Reads the bytes of the leaf `p` from place `from` on.
@@ -50,38 +37,37 @@ fn read_in_leaf<W: Words>(words: &mut W, p: Ref, from: usize, into: &mut [u8])
     ensures touches { W.touched words.new ≤ W.touched words.old + 13 }
 {
     let leaf = read_leaf(words, p);
-    copy_part(&leaf, from, into);
+    into.copy_from_slice(&leaf[from..from + into.len()]);
 }
 
-/// Reads the bytes of a rope of `size` bytes from place `from` on. The rope has at most `levels` levels.
-fn read_part<W: Words>(words: &mut W, p: Ref, size: u32, levels: u32, from: u32, into: &mut [u8])
-    requires rope { Filled (W.Words.row words.old) p.0 size levels }
+/// Reads the bytes of a rope of `size` bytes from place `from` on.
+fn read_part<W: Words>(words: &mut W, p: Ref, size: u32, from: u32, into: &mut [u8])
+    requires rope { Sized (W.Words.row words.old) p.0 size }
     requires inside { from + length into.old ≤ size }
     ensures value { into.new ≡ take (length into.old) (drop from (text (W.Words.row words.old) p.0)) }
     ensures same { W.Words.row words.new ≡ W.Words.row words.old }
-    ensures touches { W.touched words.new + 4 ≤ W.touched words.old + price levels size from (length into.old) }
+    ensures touches { (x : Sized (W.Words.row words.old) p.0 size) → W.touched words.new + 4 ≤ W.touched words.old + price (height x.lends.rope) size from (length into.old) }
 {
     if is_leaf(words, p, size) {
         read_in_leaf(words, p, from as usize, into);
         return;
     }
-    let middle = left_sum(words, p, 0);
-    let len = into.len();
-    if from + len as u32 <= middle {
+    let middle = left_sum::<Bytes, W>(words, p);
+    if from + into.len() as u32 <= middle {
         let q = left(words, p);
-        read_part(words, q, middle, levels - 1, from, into);
+        read_part(words, q, middle, from, into);
         return;
     }
     if middle <= from {
         let q = right(words, p);
-        read_part(words, q, size - middle, levels - 1, from - middle, into);
+        read_part(words, q, size - middle, from - middle, into);
         return;
     }
-    let cut = (middle - from) as usize;
+    let (front, back) = into.split_at_mut((middle - from) as usize);
     let l = left(words, p);
-    read_part(words, l, middle, levels - 1, from, &mut into[0..cut]);
+    read_part(words, l, middle, from, front);
     let r = right(words, p);
-    read_part(words, r, size - middle, levels - 1, 0, &mut into[cut..len]);
+    read_part(words, r, size - middle, 0, back);
 }
 
 /// Reads the bytes of the rope `p` from place `from` on.
@@ -96,9 +82,9 @@ pub fn read<W: Words>(words: &mut W, p: Ref, from: u32, into: &mut [u8])
         return;
     }
     let size = len(words, p);
-    if size < LEAF_MIN {
+    if size < LEAF_MIN as u32 {
         read_in_leaf(words, p, from as usize, into);
     } else {
-        read_part(words, p, size, LEVELS, from, into);
+        read_part(words, p, size, from, into);
     }
 }

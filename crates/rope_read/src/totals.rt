@@ -7,6 +7,8 @@ use cells::Ref;
 use rope_cells::Sum;
 use words::Words;
 
+// Kept: `len` and `sum` of rope_cells promise by a rope that is known, these by the text in the row, which is defined here: re-exported, those would leave each caller to prove this.
+
 /// How many bytes the rope `p` has.
 pub fn len<W: Words>(words: &mut W, p: Ref) -> u32
     requires rope { Lends (W.Words.row words.old) p.0 }

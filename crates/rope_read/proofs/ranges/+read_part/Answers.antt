@@ -1,59 +1,35 @@
-use Rattle.std.proofs.Common.{◌≡◌, ℕ, ◌+◌, ◌-◌, ◌≤◌, false, eqb, List, ◌++◌, length, take, drop, sym, refl, ap, ◌∙◌, subst, arith}
+use Rattle.std.proofs.Common.{◌≡◌, ℕ, ◌+◌, ◌-◌, Bool, false, eqb, List, ◌++◌, length, take, drop, sym, ap, ◌∙◌, subst, arith}
 use Rattle.std.proofs.lemmas.Bool.{eqb-true, eqb-false}
 use Rattle.cells.specs.Steps.{LeftRead, RightRead}
 use Rattle.ropes.specs.Rope.{bytes, height}
-use Rattle.ropes.specs.Layout.{sum_at}
 use Rattle.rope_cells.specs.Lending.{LendsChildren}
-use Rattle.rope_cells.proofs.Codes.{children_reading}
 use Rattle.rope_read.specs.Text.{text}
-use Rattle.rope_read.specs.Ranges.{Sized, Filled, price}
+use Rattle.rope_read.specs.Ranges.{Sized, price}
 use Rattle.rope_read.proofs.Descents.{lends_leaf}
-use Rattle.rope_read.proofs.Spans.{Forked, forked, levels_some, sized_text, middle_bounds, left_filled, right_filled, range_left, range_right, range_both, price_leaf, price_left, price_right, price_both, part_length, rest_length, put_both}
+use Rattle.rope_read.proofs.Spans.{Forked, forked, sized_high, sized_text, middle_bounds, left_sized, right_sized, left_low, right_low, range_left, range_right, range_both, price_leaf, price_left, price_right, price_both}
 use Rattle.rope_read.proofs.ranges.+read_part.Goals as goal
 
-node_of : (m : List ℕ) (p n levels : ℕ) (x : Filled m p n levels) (b : mathlib.Core.Bool.Bool) → ((y : Sized m p n) → b ≡ eqb (height y.lends.rope) 1) → b ≡ false → Forked m p n levels
-node_of m p n levels x b is no_leaf = forked m p n levels x (eqb-false _ _ (sym (is x.sized) ∙ no_leaf))
+-- the node that is opened, and the number of bytes to its left
+node_of : {m : List ℕ} {p n : ℕ} {b : Bool} (x : Sized m p n) → ((y : Sized m p n) → b ≡ eqb (height y.lends.rope) 1) → b ≡ false → Forked m p n (height x.lends.rope)
+node_of x is no_leaf = forked x (eqb-false _ _ (sym (is x) ∙ no_leaf))
 
-sum_of : (m m' : List ℕ) (p k r : ℕ) → m' ≡ m → ((x : LendsChildren m' p) → r ≡ sum_at (bytes x.left) k) → (x : LendsChildren m p) → r ≡ sum_at (bytes x.left) k
-sum_of m m' p k r e f = subst (λ z. (x : LendsChildren z p) → r ≡ sum_at (bytes x.left) k) e f
+sum_of : {m m' : List ℕ} {p r : ℕ} → m' ≡ m → ((x : LendsChildren m' p) → r ≡ length (bytes x.left)) → (x : LendsChildren m p) → r ≡ length (bytes x.left)
+sum_of {p = p} {r = r} e f = subst (λ z. (x : LendsChildren z p) → r ≡ length (bytes x.left)) e f
 
 pub read_in_leaf-requires : goal.read_in_leaf-requires
 read_in_leaf-requires g t c =
     let x = c.requires.rope in
     let test = c.is_leaf.ensures in
     record {
-      rope = rw test.same (lends_leaf _ _ x.sized.lends (eqb-true _ _ (sym (test.value x.sized) ∙ c.if-is_leaf.true)));
-      inside = rw test.same (omega (arith, sized_text _ _ c.args.size x.sized, c.requires.inside));
+      rope = rw test.same (lends_leaf _ _ x.lends (eqb-true _ _ (sym (test.value x) ∙ c.if-is_leaf.true)));
+      inside = rw test.same (omega (arith, sized_text _ _ c.args.size x, c.requires.inside));
     }
 
-pub returns-then-is_leaf : goal.returns-then-is_leaf
-returns-then-is_leaf g t c =
-    let test = c.is_leaf.ensures in
-    let all = c.read_in_leaf.ensures in
-    record {
-      value = rw test.same at all.value;
-      same = all.same ∙ test.same;
-      touches = omega (arith, test.touches, all.touches, price_leaf c.args.levels c.args.size c.args.from (length c.args.into.now) (levels_some _ _ _ _ c.requires.rope) c.requires.rope.sized.large c.requires.inside);
-    }
+pub returns-then-is_leaf-clause-touches : goal.returns-then-is_leaf-clause-touches
+returns-then-is_leaf-clause-touches g t c = λ x. omega (arith, c.is_leaf.ensures.touches, c.read_in_leaf.ensures.touches, price_leaf (height x.lends.rope) c.args.size c.args.from (length c.args.into.now) (sized_high x) x.large c.requires.inside)
 
 pub left_sum-middle-requires : goal.left_sum-middle-requires
-left_sum-middle-requires g t c =
-    let test = c.is_leaf.ensures in
-    record { node = rw test.same (node_of _ _ c.args.size c.args.levels c.requires.rope _ test.value c.if-is_leaf.false).children; place = omega arith }
-
-pub left-q-requires : goal.left-q-requires
-left-q-requires g t c =
-    let row = g.W.Words.row in
-    let m = row c.args.words.now in
-    let test = c.is_leaf.ensures in
-    let mid = c.left_sum-middle.ensures in
-    let n = c.args.size in
-    let levels = c.args.levels in
-    let y = node_of m _ n levels c.requires.rope _ test.value c.if-is_leaf.false in
-    let is = sum_of m _ _ 0 _ test.same mid.value y.children in
-    let same : row c.left_sum-middle.new.words ≡ m = mid.same ∙ test.same in
-    let b = middle_bounds m _ n levels y _ is in
-    rw same (children_reading m _ y.children)
+left_sum-middle-requires g t c = rw c.is_leaf.ensures.same (node_of c.requires.rope c.is_leaf.ensures.value c.if-is_leaf.false).children
 
 pub read_part-requires : goal.read_part-requires
 read_part-requires g t c κs within =
@@ -61,55 +37,41 @@ read_part-requires g t c κs within =
     let m = row c.args.words.now in
     let test = c.is_leaf.ensures in
     let mid = c.left_sum-middle.ensures in
-    let n = c.args.size in
-    let levels = c.args.levels in
-    let y = node_of m _ n levels c.requires.rope _ test.value c.if-is_leaf.false in
-    let is = sum_of m _ _ 0 _ test.same mid.value y.children in
+    let y = node_of c.requires.rope test.value c.if-is_leaf.false in
+    let is = sum_of test.same mid.value y.children in
+    let b = middle_bounds y is in
     let same : row c.left_sum-middle.new.words ≡ m = mid.same ∙ test.same in
-    let b = middle_bounds m _ n levels y _ is in
     let q = c.left-q.ensures in
-    let read : LeftRead m c.args.p.0 c.left-q.result.0 = rw same at q.lent in (
-      omega (arith, levels_some _ _ _ _ c.requires.rope, c.decreases),
-      (
-        within,
-        (rw (q.same ∙ same) (left_filled m _ n levels y _ is _ read), c.if-from-len.true),
-      ),
-    )
-
-pub returns-then-from-len : goal.returns-then-from-len
-returns-then-from-len g t c =
-    let row = g.W.Words.row in
-    let m = row c.args.words.now in
-    let test = c.is_leaf.ensures in
-    let mid = c.left_sum-middle.ensures in
-    let n = c.args.size in
-    let levels = c.args.levels in
-    let y = node_of m _ n levels c.requires.rope _ test.value c.if-is_leaf.false in
-    let is = sum_of m _ _ 0 _ test.same mid.value y.children in
-    let same : row c.left_sum-middle.new.words ≡ m = mid.same ∙ test.same in
-    let b = middle_bounds m _ n levels y _ is in
-    let q = c.left-q.ensures in
-    let down = c.read_part.ensures in
     let read : LeftRead m c.args.p.0 c.left-q.result.0 = rw same at q.lent in
-    record {
-      value = rw (q.same ∙ same) at down.value ∙ range_left m _ n levels y _ is _ c.args.from (length c.args.into.now) read c.if-from-len.true;
-      same = down.same ∙ (q.same ∙ same);
-      touches = omega (arith, test.touches, mid.touches, q.touches, down.touches, price_left levels n _ c.args.from (length c.args.into.now) (levels_some _ _ _ _ c.requires.rope) b.0 b.1 c.if-from-len.true);
-    }
+    (omega (arith, b, c.decreases), (within, (rw (q.same ∙ same) (left_sized y is read), c.if-from-into.true)))
 
-pub right-q-requires : goal.right-q-requires
-right-q-requires g t c =
+pub returns-then-from-into-clause-value : goal.returns-then-from-into-clause-value
+returns-then-from-into-clause-value g t c =
     let row = g.W.Words.row in
     let m = row c.args.words.now in
     let test = c.is_leaf.ensures in
     let mid = c.left_sum-middle.ensures in
-    let n = c.args.size in
-    let levels = c.args.levels in
-    let y = node_of m _ n levels c.requires.rope _ test.value c.if-is_leaf.false in
-    let is = sum_of m _ _ 0 _ test.same mid.value y.children in
+    let y = node_of c.requires.rope test.value c.if-is_leaf.false in
+    let is = sum_of test.same mid.value y.children in
     let same : row c.left_sum-middle.new.words ≡ m = mid.same ∙ test.same in
-    let b = middle_bounds m _ n levels y _ is in
-    rw same (children_reading m _ y.children)
+    let q = c.left-q.ensures in
+    let read : LeftRead m c.args.p.0 c.left-q.result.0 = rw same at q.lent in
+    rw (q.same ∙ same) at c.read_part.ensures.value ∙ range_left y is c.args.from (length c.args.into.now) read c.if-from-into.true
+
+pub returns-then-from-into-clause-touches : goal.returns-then-from-into-clause-touches
+returns-then-from-into-clause-touches g t c = λ x.
+    let row = g.W.Words.row in
+    let m = row c.args.words.now in
+    let test = c.is_leaf.ensures in
+    let mid = c.left_sum-middle.ensures in
+    let y = node_of x test.value c.if-is_leaf.false in
+    let is = sum_of test.same mid.value y.children in
+    let b = middle_bounds y is in
+    let same : row c.left_sum-middle.new.words ≡ m = mid.same ∙ test.same in
+    let q = c.left-q.ensures in
+    let read : LeftRead m c.args.p.0 c.left-q.result.0 = rw same at q.lent in
+    let down = (rw (q.same ∙ same) at c.read_part.ensures.touches) (left_sized y is read) in
+    omega (arith, test.touches, mid.touches, q.touches, down, price_left _ c.args.size _ c.args.from (length c.args.into.now) b.0 b.1 _ (left_low y is) c.if-from-into.true)
 
 pub read_part-requires-then-middle-from : goal.read_part-requires-then-middle-from
 read_part-requires-then-middle-from g t c κs within =
@@ -117,55 +79,41 @@ read_part-requires-then-middle-from g t c κs within =
     let m = row c.args.words.now in
     let test = c.is_leaf.ensures in
     let mid = c.left_sum-middle.ensures in
-    let n = c.args.size in
-    let levels = c.args.levels in
-    let y = node_of m _ n levels c.requires.rope _ test.value c.if-is_leaf.false in
-    let is = sum_of m _ _ 0 _ test.same mid.value y.children in
+    let y = node_of c.requires.rope test.value c.if-is_leaf.false in
+    let is = sum_of test.same mid.value y.children in
+    let b = middle_bounds y is in
     let same : row c.left_sum-middle.new.words ≡ m = mid.same ∙ test.same in
-    let b = middle_bounds m _ n levels y _ is in
     let q = c.right-q.ensures in
-    let read : RightRead m c.args.p.0 c.right-q.result.0 = rw same at q.lent in (
-      omega (arith, levels_some _ _ _ _ c.requires.rope, c.decreases),
-      (
-        within,
-        (rw (q.same ∙ same) (right_filled m _ n levels y _ is _ read), omega (arith, c.requires.inside, c.if-middle-from.true, b.2)),
-      ),
-    )
-
-pub returns-then-middle-from : goal.returns-then-middle-from
-returns-then-middle-from g t c =
-    let row = g.W.Words.row in
-    let m = row c.args.words.now in
-    let test = c.is_leaf.ensures in
-    let mid = c.left_sum-middle.ensures in
-    let n = c.args.size in
-    let levels = c.args.levels in
-    let y = node_of m _ n levels c.requires.rope _ test.value c.if-is_leaf.false in
-    let is = sum_of m _ _ 0 _ test.same mid.value y.children in
-    let same : row c.left_sum-middle.new.words ≡ m = mid.same ∙ test.same in
-    let b = middle_bounds m _ n levels y _ is in
-    let q = c.right-q.ensures in
-    let down = c.read_part-then-middle-from.ensures in
     let read : RightRead m c.args.p.0 c.right-q.result.0 = rw same at q.lent in
-    record {
-      value = rw (q.same ∙ same) at down.value ∙ range_right m _ n levels y _ is _ c.args.from (length c.args.into.now) read c.if-middle-from.true;
-      same = down.same ∙ (q.same ∙ same);
-      touches = omega (arith, test.touches, mid.touches, q.touches, down.touches, price_right levels n _ c.args.from (length c.args.into.now) (levels_some _ _ _ _ c.requires.rope) b.0 b.1 c.if-middle-from.true c.requires.inside);
-    }
+    (omega (arith, b, c.decreases), (within, (rw (q.same ∙ same) (right_sized y is read), omega (arith, c.requires.inside, c.if-middle-from.true, b.2))))
 
-pub left-l-requires : goal.left-l-requires
-left-l-requires g t c =
+pub returns-then-middle-from-clause-value : goal.returns-then-middle-from-clause-value
+returns-then-middle-from-clause-value g t c =
     let row = g.W.Words.row in
     let m = row c.args.words.now in
     let test = c.is_leaf.ensures in
     let mid = c.left_sum-middle.ensures in
-    let n = c.args.size in
-    let levels = c.args.levels in
-    let y = node_of m _ n levels c.requires.rope _ test.value c.if-is_leaf.false in
-    let is = sum_of m _ _ 0 _ test.same mid.value y.children in
+    let y = node_of c.requires.rope test.value c.if-is_leaf.false in
+    let is = sum_of test.same mid.value y.children in
     let same : row c.left_sum-middle.new.words ≡ m = mid.same ∙ test.same in
-    let b = middle_bounds m _ n levels y _ is in
-    rw same (children_reading m _ y.children)
+    let q = c.right-q.ensures in
+    let read : RightRead m c.args.p.0 c.right-q.result.0 = rw same at q.lent in
+    rw (q.same ∙ same) at c.read_part-then-middle-from.ensures.value ∙ range_right y is c.args.from (length c.args.into.now) read c.if-middle-from.true
+
+pub returns-then-middle-from-clause-touches : goal.returns-then-middle-from-clause-touches
+returns-then-middle-from-clause-touches g t c = λ x.
+    let row = g.W.Words.row in
+    let m = row c.args.words.now in
+    let test = c.is_leaf.ensures in
+    let mid = c.left_sum-middle.ensures in
+    let y = node_of x test.value c.if-is_leaf.false in
+    let is = sum_of test.same mid.value y.children in
+    let b = middle_bounds y is in
+    let same : row c.left_sum-middle.new.words ≡ m = mid.same ∙ test.same in
+    let q = c.right-q.ensures in
+    let read : RightRead m c.args.p.0 c.right-q.result.0 = rw same at q.lent in
+    let down = (rw (q.same ∙ same) at c.read_part-then-middle-from.ensures.touches) (right_sized y is read) in
+    omega (arith, test.touches, mid.touches, q.touches, down, price_right _ c.args.size _ c.args.from (length c.args.into.now) b.0 b.1 _ (right_low y is) c.if-middle-from.true c.requires.inside)
 
 pub read_part-requires-2 : goal.read_part-requires-2
 read_part-requires-2 g t c κs within =
@@ -173,36 +121,13 @@ read_part-requires-2 g t c κs within =
     let m = row c.args.words.now in
     let test = c.is_leaf.ensures in
     let mid = c.left_sum-middle.ensures in
-    let n = c.args.size in
-    let levels = c.args.levels in
-    let y = node_of m _ n levels c.requires.rope _ test.value c.if-is_leaf.false in
-    let is = sum_of m _ _ 0 _ test.same mid.value y.children in
+    let y = node_of c.requires.rope test.value c.if-is_leaf.false in
+    let is = sum_of test.same mid.value y.children in
+    let b = middle_bounds y is in
     let same : row c.left_sum-middle.new.words ≡ m = mid.same ∙ test.same in
-    let b = middle_bounds m _ n levels y _ is in
     let q = c.left-l.ensures in
     let read : LeftRead m c.args.p.0 c.left-l.result.0 = rw same at q.lent in
-    let long = part_length c.args.into.now (c.left_sum-middle.result - c.args.from) _ refl (omega arith) in (
-      omega (arith, levels_some _ _ _ _ c.requires.rope, c.decreases),
-      (
-        within,
-        (rw (q.same ∙ same) (left_filled m _ n levels y _ is _ read), omega (arith, long, c.if-middle-from.false)),
-      ),
-    )
-
-pub right-r-requires : goal.right-r-requires
-right-r-requires g t c =
-    let row = g.W.Words.row in
-    let m = row c.args.words.now in
-    let test = c.is_leaf.ensures in
-    let mid = c.left_sum-middle.ensures in
-    let n = c.args.size in
-    let levels = c.args.levels in
-    let y = node_of m _ n levels c.requires.rope _ test.value c.if-is_leaf.false in
-    let is = sum_of m _ _ 0 _ test.same mid.value y.children in
-    let same : row c.left_sum-middle.new.words ≡ m = mid.same ∙ test.same in
-    let b = middle_bounds m _ n levels y _ is in
-    let last : row c.read_part-2.new.words ≡ m = c.read_part-2.ensures.same ∙ (c.left-l.ensures.same ∙ same) in
-    rw last (children_reading m _ y.children)
+    (omega (arith, b, c.decreases), (within, (rw (q.same ∙ same) (left_sized y is read), omega (arith, c.split_at_mut-front.ensures.front_len, c.if-middle-from.false))))
 
 pub read_part-requires-3 : goal.read_part-requires-3
 read_part-requires-3 g t c κs within =
@@ -210,60 +135,61 @@ read_part-requires-3 g t c κs within =
     let m = row c.args.words.now in
     let test = c.is_leaf.ensures in
     let mid = c.left_sum-middle.ensures in
-    let n = c.args.size in
-    let levels = c.args.levels in
-    let y = node_of m _ n levels c.requires.rope _ test.value c.if-is_leaf.false in
-    let is = sum_of m _ _ 0 _ test.same mid.value y.children in
+    let y = node_of c.requires.rope test.value c.if-is_leaf.false in
+    let is = sum_of test.same mid.value y.children in
+    let b = middle_bounds y is in
     let same : row c.left_sum-middle.new.words ≡ m = mid.same ∙ test.same in
-    let b = middle_bounds m _ n levels y _ is in
     let q = c.right-r.ensures in
     let last : row c.read_part-2.new.words ≡ m = c.read_part-2.ensures.same ∙ (c.left-l.ensures.same ∙ same) in
     let read : RightRead m c.args.p.0 c.right-r.result.0 = rw last at q.lent in
-    let cut = c.left_sum-middle.result - c.args.from in
-    let long = rest_length c.args.into.now c.read_part-2.new.into cut _ refl (omega arith) c.read_part-2.auto.into in (
-      omega (arith, levels_some _ _ _ _ c.requires.rope, c.decreases),
-      (
-        within,
-        (rw (q.same ∙ last) (right_filled m _ n levels y _ is _ read), omega (arith, long, c.if-middle-from.false, c.requires.inside, b.2)),
-      ),
-    )
+    (omega (arith, b, c.decreases), (within, (rw (q.same ∙ last) (right_sized y is read), omega (arith, c.split_at_mut-front.ensures.back_len, c.if-middle-from.false, c.requires.inside, b.2))))
 
-pub returns : goal.returns
-returns g t c =
+pub returns-clause-value : goal.returns-clause-value
+returns-clause-value g t c =
     let row = g.W.Words.row in
     let m = row c.args.words.now in
     let test = c.is_leaf.ensures in
     let mid = c.left_sum-middle.ensures in
-    let n = c.args.size in
-    let levels = c.args.levels in
-    let y = node_of m _ n levels c.requires.rope _ test.value c.if-is_leaf.false in
-    let is = sum_of m _ _ 0 _ test.same mid.value y.children in
+    let y = node_of c.requires.rope test.value c.if-is_leaf.false in
+    let is = sum_of test.same mid.value y.children in
     let same : row c.left_sum-middle.new.words ≡ m = mid.same ∙ test.same in
-    let b = middle_bounds m _ n levels y _ is in
-    let into = c.args.into.now in
+    let cut = c.split_at_mut-front in
     let from = c.args.from in
-    let k = length into in
-    let cut = c.left_sum-middle.result - from in
+    let k = length c.args.into.now in
     let front = c.left-l.ensures in
     let back = c.right-r.ensures in
-    let first = c.read_part-2.ensures in
-    let second = c.read_part-3.ensures in
-    let last : row c.read_part-2.new.words ≡ m = first.same ∙ (front.same ∙ same) in
+    let last : row c.read_part-2.new.words ≡ m = c.read_part-2.ensures.same ∙ (front.same ∙ same) in
     let left_read : LeftRead m c.args.p.0 c.left-l.result.0 = rw same at front.lent in
     let right_read : RightRead m c.args.p.0 c.right-r.result.0 = rw last at back.lent in
-    let le : cut ≤ k = omega arith in
-    let long = part_length into cut k refl le in
-    let rest = rest_length into c.read_part-2.new.into cut k refl le c.read_part-2.auto.into in
-    let x : c.read_part-2.new.into ≡ take cut (drop from (text m c.left-l.result.0)) = (rw (front.same ∙ same) at first.value) ∙ ap (λ z. take z (drop from (text m c.left-l.result.0))) long in
-    let z : c.read_part-3.new.into ≡ take (k - cut) (drop 0 (text m c.right-r.result.0)) = (rw (back.same ∙ last) at second.value) ∙ ap (λ z. take z (drop 0 (text m c.right-r.result.0))) rest in
-    let e : k - cut ≡ from + k - c.left_sum-middle.result = omega arith in
-    let all = range_both m _ n levels y _ is _ _ from k left_read right_read (omega arith) (omega arith) in
-    let cost = price_both levels n _ from k (levels_some _ _ _ _ c.requires.rope) b.0 b.1 (omega arith) (omega arith) c.requires.inside in
-    let cost_front = ap (price (levels - 1) c.left_sum-middle.result from) long in
-    let cost_back = ap (price (levels - 1) (n - c.left_sum-middle.result) 0) (rest ∙ e) in
-    record {
-      value = put_both into c.read_part-2.new.into c.read_part-3.new.into cut k refl le c.read_part-2.auto.into
-          ∙ (ap (λ v. v ++ c.read_part-3.new.into) x ∙ (ap (λ v. take cut (drop from (text m c.left-l.result.0)) ++ v) (z ∙ ap (λ v. take v (drop 0 (text m c.right-r.result.0))) e) ∙ all));
-      same = second.same ∙ (back.same ∙ last);
-      touches = omega (arith, test.touches, mid.touches, front.touches, first.touches, back.touches, second.touches, cost, cost_front, cost_back);
-    }
+    let long : length cut.result.1.now ≡ from + k - c.left_sum-middle.result = omega (arith, cut.ensures.back_len, c.if-from-into.false, c.if-middle-from.false) in
+    let first : c.read_part-2.new.into ≡ take (c.left_sum-middle.result - from) (drop from (text m c.left-l.result.0)) = (rw (front.same ∙ same) at c.read_part-2.ensures.value) ∙ ap (λ z. take z (drop from (text m c.left-l.result.0))) cut.ensures.front_len in
+    let second : c.read_part-3.new.into ≡ take (from + k - c.left_sum-middle.result) (drop 0 (text m c.right-r.result.0)) = (rw (back.same ∙ last) at c.read_part-3.ensures.value) ∙ ap (λ z. take z (drop 0 (text m c.right-r.result.0))) long in
+    ap (λ v. v ++ c.read_part-3.new.into) first
+    ∙ (ap (λ v. take (c.left_sum-middle.result - from) (drop from (text m c.left-l.result.0)) ++ v) second
+    ∙ range_both y is from k left_read right_read (omega (arith, c.if-middle-from.false)) (omega (arith, c.if-from-into.false)))
+
+pub returns-clause-touches : goal.returns-clause-touches
+returns-clause-touches g t c = λ x.
+    let row = g.W.Words.row in
+    let m = row c.args.words.now in
+    let test = c.is_leaf.ensures in
+    let mid = c.left_sum-middle.ensures in
+    let y = node_of x test.value c.if-is_leaf.false in
+    let is = sum_of test.same mid.value y.children in
+    let b = middle_bounds y is in
+    let same : row c.left_sum-middle.new.words ≡ m = mid.same ∙ test.same in
+    let cut = c.split_at_mut-front.ensures in
+    let from = c.args.from in
+    let k = length c.args.into.now in
+    let front = c.left-l.ensures in
+    let back = c.right-r.ensures in
+    let last : row c.read_part-2.new.words ≡ m = c.read_part-2.ensures.same ∙ (front.same ∙ same) in
+    let left_read : LeftRead m c.args.p.0 c.left-l.result.0 = rw same at front.lent in
+    let right_read : RightRead m c.args.p.0 c.right-r.result.0 = rw last at back.lent in
+    let long : length c.split_at_mut-front.result.1.now ≡ from + k - c.left_sum-middle.result = omega (arith, cut.back_len, c.if-from-into.false, c.if-middle-from.false) in
+    let first = (rw (front.same ∙ same) at c.read_part-2.ensures.touches) (left_sized y is left_read) in
+    let second = (rw (back.same ∙ last) at c.read_part-3.ensures.touches) (right_sized y is right_read) in
+    let cost_front = ap (price (height y.children.left) c.left_sum-middle.result from) cut.front_len in
+    let cost_back = ap (price (height y.children.right) (c.args.size - c.left_sum-middle.result) 0) long in
+    let cost = price_both _ c.args.size _ from k b.0 b.1 _ _ (left_low y is) (right_low y is) (omega (arith, c.if-middle-from.false)) (omega (arith, c.if-from-into.false)) c.requires.inside in
+    omega (arith, test.touches, mid.touches, front.touches, first, back.touches, second, cost, cost_front, cost_back)
