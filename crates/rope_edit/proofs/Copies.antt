@@ -1,5 +1,5 @@
 -- A rope many times behind another: its steps, its bytes and its height.
-use Rattle.std.proofs.Common.{◌≡◌, ℕ, zero, suc, ◌+◌, ◌*◌, ◌/◌, ◌%◌, ◌^◌, ◌<◌, ◌≤◌, max, Bool, true, false, cond, eqb, List, length, refl, ap, ◌∙◌, ⊎_elim, mul-le-mul_right, suc-mul, add-mul, pow-suc, mul-add, arith, length-append}
+use Rattle.std.proofs.Common.{◌≡◌, ℕ, zero, suc, ◌+◌, ◌*◌, ◌/◌, ◌%◌, ◌^◌, ◌<◌, ◌≤◌, max, eqb, List, length, refl, ap, ◌∙◌, ⊎_elim, mul-le-mul_right, suc-mul, add-mul, pow-suc, mul-add, arith, length-append}
 use Rattle.std.proofs.lemmas.Bool.{eq-eqb, ne_eqb, eqb-true, eqb-false, cond_both, cond-true, cond-false, cases_lt}
 use Rattle.spec.specs.Text.{copies}
 use Rattle.ropes.specs.Rope.{Rope, empty, bytes, size, height, Whole}
@@ -23,38 +23,26 @@ two_few n s h = let k : 2 * s ≤ n * s = mul-le-mul_right s h in omega arith
 pub one_few : (n s : ℕ) → n ≡ 1 → n * s ≡ s
 one_few n s e = ap (λ z. z * s) e ∙ omega arith
 
--- the lowest digit of a count
-abbrev pub is_odd : ℕ → Bool
-is_odd n = eqb (n % 2) 1
-
 -- what an odd one is added to has the bytes that are left over
-pub odd_size : (n : ℕ) (u v : Rope) → size (odd_onto (is_odd n) u v) + n / 2 * size (concat v v) ≡ size u + n * size v
+pub odd_size : (n : ℕ) (u v : Rope) → size (odd_onto n u v) + n / 2 * size (concat v v) ≡ size u + n * size v
 odd_size n u v =
     let s = size v in
     let twice : n / 2 * size (concat v v) ≡ n / 2 * (s + s) = ap (λ z. n / 2 * z) (size_concat v v) in
-    cond_both (is_odd n) (concat u v) u (λ z. size z + n / 2 * size (concat v v) ≡ size u + n * s)
-    (λ e. let k : n % 2 * s ≡ 1 * s = ap (λ z. z * s) (eqb-true _ _ e) in omega (arith, halves n s, size_concat u v))
-    (λ e. let even : n % 2 ≡ 1 → ⊥ = eqb-false _ _ e in
-    let none : n % 2 ≡ 0 = omega arith in
-    let k : n % 2 * s ≡ 0 * s = ap (λ z. z * s) none in
-    omega (arith, halves n s))
+    cond_both (eqb (n % 2) 0) u (concat u v) (λ z. size z + n / 2 * size (concat v v) ≡ size u + n * s)
+    (λ e. let k : n % 2 * s ≡ 0 * s = ap (λ z. z * s) (eqb-true _ _ e) in omega (arith, halves n s))
+    (λ e. let odd : n % 2 ≡ 0 → ⊥ = eqb-false _ _ e in
+    let one : n % 2 ≡ 1 = omega arith in
+    let k : n % 2 * s ≡ 1 * s = ap (λ z. z * s) one in
+    omega (arith, halves n s, size_concat u v))
 
-pub odd_whole : (odd : Bool) (u v : Rope) → Whole u → Whole v → Whole (odd_onto odd u v)
-odd_whole true u v wu wv = (concat_ok u v wu wv).whole
-odd_whole false u v wu wv = wu
+pub odd_whole : (n : ℕ) (u v : Rope) → Whole u → Whole v → Whole (odd_onto n u v)
+odd_whole n u v wu wv = cond_both (eqb (n % 2) 0) u (concat u v) Whole (λ _. wu) (λ _. (concat_ok u v wu wv).whole)
 
-odd_high : (odd : Bool) (u v : Rope) → Whole u → Whole v → height u ≤ height (odd_onto odd u v)
-odd_high true u v wu wv = omega (arith, (concat_ok u v wu wv).low)
-odd_high false u v wu wv = omega arith
+odd_high : (n : ℕ) (u v : Rope) → Whole u → Whole v → height u ≤ height (odd_onto n u v)
+odd_high n u v wu wv = cond_both (eqb (n % 2) 0) u (concat u v) (λ z. height u ≤ height z) (λ _. omega arith) (λ _. omega (arith, (concat_ok u v wu wv).low))
 
 pub halved : (n k : ℕ) → n < 2 ^ suc k → n / 2 < 2 ^ k
 halved n k h = let e : 2 ^ suc k ≡ 2 ^ k * 2 = pow-suc 2 k in omega arith
-
-odd_is : (n : ℕ) (u v : Rope) → cond (eqb (n % 2) 0) u (concat u v) ≡ odd_onto (is_odd n) u v
-odd_is n u v =
-    cond_both (is_odd n) (concat u v) u (λ z. cond (eqb (n % 2) 0) u (concat u v) ≡ z)
-    (λ e. let odd : n % 2 ≡ 1 = eqb-true _ _ e in cond-false _ _ _ (ne_eqb _ _ (λ (z : n % 2 ≡ 0). omega arith)))
-    (λ e. let even : n % 2 ≡ 1 → ⊥ = eqb-false _ _ e in cond-true _ _ _ (eq-eqb (n % 2) 0 (omega arith)))
 
 -- the steps
 pub repeat_none : (steps : ℕ) (u v : Rope) (n : ℕ) → n ≡ 0 → repeat_onto steps u v n ≡ u
@@ -66,12 +54,12 @@ pub repeat_one : (steps : ℕ) (u v : Rope) (n : ℕ) → n ≡ 1 → repeat_ont
 unfolding repeat_onto
 repeat_one steps u v n e = cond-false _ _ _ (ne_eqb _ _ (λ (z : n ≡ 0). omega arith)) ∙ cond-true _ _ _ (eq-eqb (n / 2) 0 (omega arith))
 
-pub repeat_more : (steps : ℕ) (u v : Rope) (n : ℕ) → 2 ≤ n → repeat_onto (suc steps) u v n ≡ repeat_onto steps (odd_onto (is_odd n) u v) (concat v v) (n / 2)
+pub repeat_more : (steps : ℕ) (u v : Rope) (n : ℕ) → 2 ≤ n → repeat_onto (suc steps) u v n ≡ repeat_onto steps (odd_onto n u v) (concat v v) (n / 2)
 unfolding repeat_onto
 repeat_more steps u v n h =
     let some = ne_eqb n 0 (λ (z : n ≡ 0). omega arith) in
     let more = ne_eqb (n / 2) 0 (λ (z : n / 2 ≡ 0). omega arith) in
-    cond-false _ _ _ some ∙ (cond-false _ _ _ more ∙ ap (λ t. repeat_onto steps t (concat v v) (n / 2)) (odd_is n u v))
+    cond-false _ _ _ some ∙ cond-false _ _ _ more
 
 -- neither rope is higher than the result
 pub repeat_high : (steps : ℕ) (u v : Rope) (n : ℕ) → Whole u → Whole v → 1 ≤ n → n < 2 ^ steps → max (height u) (height v) ≤ height (repeat_onto steps u v n)
@@ -81,8 +69,8 @@ repeat_high (suc steps) u v n wu wv some fits =
     (λ (q : n < 2). omega (arith, ap height (repeat_one steps u v n (omega arith)), (concat_ok u v wu wv).low))
     (λ (q : 2 ≤ n).
     let twice = concat_ok v v wv wv in
-    let all = repeat_high steps (odd_onto (is_odd n) u v) (concat v v) (n / 2) (odd_whole (is_odd n) u v wu wv) twice.whole (omega arith) (halved n steps fits) in
-    omega (arith, ap height (repeat_more steps u v n q), all, twice.low, odd_high (is_odd n) u v wu wv))
+    let all = repeat_high steps (odd_onto n u v) (concat v v) (n / 2) (odd_whole n u v wu wv) twice.whole (omega arith) (halved n steps fits) in
+    omega (arith, ap height (repeat_more steps u v n q), all, twice.low, odd_high n u v wu wv))
     (cases_lt n 2)
 
 length_copies : (n : ℕ) (xs : List ℕ) → length (copies n xs) ≡ n * length xs

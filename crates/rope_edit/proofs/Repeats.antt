@@ -1,8 +1,9 @@
 -- The steps of repeating a rope.
-use Rattle.std.proofs.Common.{◌≡◌, ℕ, zero, suc, ◌+◌, ◌*◌, ◌/◌, ◌^◌, ◌<◌, ◌≤◌, Bool, true, List, ◌∷◌, length, Some, None, Option, sym, refl, ap, ◌∙◌, subst, suc-mul, mul-le-mul_left, arith}
+use Rattle.std.proofs.Common.{◌≡◌, ℕ, zero, suc, ◌+◌, ◌*◌, ◌/◌, ◌%◌, ◌^◌, ◌<◌, ◌≤◌, ◌≢◌, List, ◌∷◌, length, Some, None, Option, sym, refl, ap, subst, suc-mul, mul-le-mul_left, arith}
+use Rattle.std.proofs.lemmas.Bool.{ne_eqb, cond-false}
 use Rattle.cells.specs.declared.cell.Ref.{Ref}
 use Rattle.cells.specs.Have.{item, Have, opt}
-use Rattle.cells.specs.Steps.{Sharing, Holding, Released}
+use Rattle.cells.specs.Steps.{Sharing, Shared, Holding, Released}
 use Rattle.cells.proofs.Held.{lend}
 use Rattle.ropes.specs.Rope.{Rope, empty, size, height, cells, Whole}
 use Rattle.ropes.specs.Join.{concat}
@@ -18,17 +19,17 @@ use Rattle.rope.specs.Cutting.{One}
 use Rattle.rope.proofs.Holds.{swap_have}
 use Rattle.rope.proofs.Makings.{some_none}
 use Rattle.rope.proofs.Splits.{add_none}
-use Rattle.rope_edit.specs.Editing.{Another, Copied, copied_most, odd_onto, Adds, Twice, Doubles, Repeats, Times, Repeated}
+use Rattle.rope_edit.specs.Editing.{Copied, copied_most, odd_onto, Adds, Twice, Doubles, Repeats, Times, Repeated}
 use Rattle.rope_edit.proofs.Slices.{short_low}
 use Rattle.rope_edit.proofs.Follows.{concat_price_few}
-use Rattle.rope_edit.proofs.Copies.{two_few, one_few, is_odd, odd_size, odd_whole, halved, repeat_none, repeat_one, repeat_more, repeat_high, repeat_bytes, repeat_short}
+use Rattle.rope_edit.proofs.Copies.{two_few, one_few, odd_size, odd_whole, halved, repeat_none, repeat_one, repeat_more, repeat_high, repeat_bytes, repeat_short}
 
 -- cells of parts of the result
 cells_within : (u v w : Rope) (s : ℕ) → Whole u → Whole v → Whole w → size u + size v + size w ≤ s → cells u + cells v + cells w ≤ s / 12 + 3
 cells_within u v w s wu wv ww h = omega (arith, cells_few u wu, cells_few v wv, cells_few w ww)
 
 -- once more where the count is odd
-module _ (m : List ℕ) (l r : ℕ) where
+module _ {m : List ℕ} {l r : ℕ} where
   pub odd_sharing : Two Any m l r 200 → Sharing m r
   odd_sharing x =
       record {
@@ -39,8 +40,8 @@ module _ (m : List ℕ) (l r : ℕ) where
         few = omega (arith, x.few);
       }
 
-  module _ (m1 : List ℕ) (q : ℕ) (shared : Another m m1 r q) (long1 : length m1 ≡ length m) (k k1 : ℕ) (cost1 : k1 ≤ k + 2) where
-    abbrev pub odd_two : Two Any m l r 200 → Two Any m1 l q 128
+  module _ {m1 : List ℕ} (shared : Shared m m1 r) (long1 : length m1 ≡ length m) (k : ℕ) {k1 : ℕ} (cost1 : k1 ≤ k + 2) where
+    abbrev pub odd_two : Two Any m l r 200 → Two Any m1 l r 128
     odd_two x =
         record {
           u = x.u;
@@ -51,22 +52,27 @@ module _ (m : List ℕ) (l r : ℕ) where
           few = omega (arith, x.few);
         }
 
-    pub adds_once : (m2 : List ℕ) (d : Option Ref) (k2 : ℕ) → Joins Any concat concat_price 1 m1 m2 l q 128 d k1 k2 → Adds true m m2 l r d k k2
-    adds_once m2 d k2 last =
+    pub adds_once : {n : ℕ} {m2 : List ℕ} {d : Option Ref} {k2 : ℕ} → n % 2 ≢ 0 → Joins Any concat concat_price 1 m1 m2 l r 128 d k1 k2 → Adds n m m2 l r d k k2
+    adds_once {n} {m2} {d} odd last =
         record {
           runs = λ x.
               let o = last.runs (odd_two x) in
-              record { have = o.have; full = λ e. omega (arith, o.full e, nodes_code x.v); cost = omega (arith, o.cost) };
+              let is : odd_onto n x.u x.v ≡ concat x.u x.v = cond-false _ _ _ (ne_eqb (n % 2) 0 odd) in
+              record {
+                have = subst (λ t. Have m2 (opt d (code t) (item r (code x.v) ∷ x.rest))) (sym is) o.have;
+                full = λ e. omega (arith, o.full e, nodes_code x.v);
+                cost = omega (arith, o.cost);
+              };
         }
 
 -- a rope twice
-module _ (m : List ℕ) (p : ℕ) where
+module _ {m : List ℕ} {p : ℕ} where
   pub twice_sharing : One Twice m p 160 → Sharing m p
   twice_sharing x =
       record { rest = item p (code x.t) ∷ x.rest; tree = code x.t; have = x.have; lent = lend m p (code x.t) _ x.have; few = omega (arith, x.few) }
 
-  module _ (m1 : List ℕ) (q : ℕ) (shared : Another m m1 p q) (long1 : length m1 ≡ length m) (k k1 : ℕ) (cost1 : k1 ≤ k + 2) where
-    abbrev pub twice_two : One Twice m p 160 → Two Any m1 p q 128
+  module _ {m1 : List ℕ} (shared : Shared m m1 p) (long1 : length m1 ≡ length m) (k : ℕ) {k1 : ℕ} (cost1 : k1 ≤ k + 2) where
+    abbrev pub twice_two : One Twice m p 160 → Two Any m1 p p 128
     twice_two x =
         record {
           u = x.t;
@@ -77,8 +83,8 @@ module _ (m : List ℕ) (p : ℕ) where
           few = omega (arith, x.few);
         }
 
-    pub doubles : (m2 : List ℕ) (d : Option Ref) (k2 : ℕ) → Joins Any concat concat_price 1 m1 m2 p q 128 d k1 k2 → Doubles m m2 p d k k2
-    doubles m2 d k2 last =
+    pub doubles : {m2 : List ℕ} {d : Option Ref} {k2 : ℕ} → Joins Any concat concat_price 1 m1 m2 p p 128 d k1 k2 → Doubles m m2 p d k k2
+    doubles last =
         record {
           runs = λ x.
               let o = last.runs (twice_two x) in
@@ -86,12 +92,12 @@ module _ (m : List ℕ) (p : ℕ) where
         }
 
 -- no time
-module _ (n : ℕ) (none : n ≡ 0) (m : List ℕ) (l : Ref) (r : ℕ) where
+module _ {n : ℕ} (none : n ≡ 0) {m : List ℕ} {l : Ref} {r : ℕ} where
   pub none_holding : Two (Copied n) m l.0 r 200 → Holding m r
   none_holding x = record { tree = code x.v; rest = item l.0 (code x.u) ∷ x.rest; have = swap_have m _ _ _ x.have }
 
-  pub repeats_none : (m1 : List ℕ) (k k1 : ℕ) → Released m m1 r → k1 ≤ k + 5 → Repeats n m m1 l.0 r (Some l) k k1
-  repeats_none m1 k k1 gone drops =
+  pub repeats_none : {m1 : List ℕ} {k k1 : ℕ} → Released m m1 r → k1 ≤ k + 5 → Repeats n m m1 l.0 r (Some l) k k1
+  repeats_none {m1} gone drops =
       record {
         runs = λ x steps fits.
             let is = repeat_none steps x.u x.v n none in
@@ -103,7 +109,7 @@ module _ (n : ℕ) (none : n ≡ 0) (m : List ℕ) (l : Ref) (r : ℕ) where
       }
 
 -- once
-module _ (n : ℕ) (one : n ≡ 1) (m : List ℕ) (l r : ℕ) where
+module _ {n : ℕ} (one : n ≡ 1) {m : List ℕ} {l r : ℕ} where
   abbrev pub once_two : Two (Copied n) m l r 200 → Two Any m l r 128
   once_two x =
       record {
@@ -115,7 +121,7 @@ module _ (n : ℕ) (one : n ≡ 1) (m : List ℕ) (l r : ℕ) where
         few = omega (arith, x.few);
       }
 
-  module _ (m1 : List ℕ) (d : Option Ref) (k k1 : ℕ) (last : Joins Any concat concat_price 1 m m1 l r 128 d k k1) where
+  module _ {m1 : List ℕ} {d : Option Ref} {k k1 : ℕ} (last : Joins Any concat concat_price 1 m m1 l r 128 d k k1) where
     once : (x : Two (Copied n) m l r 200) (steps : ℕ) → n < 2 ^ steps
         → After m m1 d (repeat_onto steps x.u x.v n) x.rest (copied_most n x.u x.v x.rest) k1 (k + (steps * (52 * height (repeat_onto steps x.u x.v n) + 480) + 5))
     once x zero fits = absurd (omega arith)
@@ -133,7 +139,11 @@ module _ (n : ℕ) (one : n ≡ 1) (m : List ℕ) (l r : ℕ) where
     repeats_once = record { runs = once }
 
 -- more often
-module _ (n : ℕ) (many : 2 ≤ n) (m : List ℕ) (l r : ℕ) where
+abbrev Done : (n : ℕ) (m m2 : List ℕ) (l r : ℕ) (d : Option Ref) (k k2 : ℕ) → Type 0
+Done n m m2 l r d k k2 = (x : Two (Copied n) m l r 200) (steps : ℕ) → n < 2 ^ steps
+    → After m m2 d (repeat_onto steps x.u x.v n) x.rest (copied_most n x.u x.v x.rest) k2 (k + (steps * (52 * height (repeat_onto steps x.u x.v n) + 480) + 5))
+
+module _ {n : ℕ} (many : 2 ≤ n) {m : List ℕ} {l r : ℕ} where
   abbrev pub many_two : Two (Copied n) m l r 200 → Two Any m l r 200
   many_two x =
       record {
@@ -145,18 +155,14 @@ module _ (n : ℕ) (many : 2 ≤ n) (m : List ℕ) (l r : ℕ) where
         few = x.few;
       }
 
-  abbrev Done : (m2 : List ℕ) (d : Option Ref) (k k2 : ℕ) → Type 0
-  Done m2 d k k2 = (x : Two (Copied n) m l r 200) (steps : ℕ) → n < 2 ^ steps
-      → After m m2 d (repeat_onto steps x.u x.v n) x.rest (copied_most n x.u x.v x.rest) k2 (k + (steps * (52 * height (repeat_onto steps x.u x.v n) + 480) + 5))
-
-  module _ (m1 : List ℕ) (long1 : length m1 ≡ length m) (odd : Bool) (is_odd_n : odd ≡ is_odd n) (k k1 : ℕ) where
-    module _ (adds : Adds odd m m1 l r None k k1) where
+  module _ {m1 : List ℕ} (long1 : length m1 ≡ length m) {k k1 : ℕ} where
+    module _ (adds : Adds n m m1 l r None k k1) where
       pub add_holding : Two (Copied n) m l r 200 → Holding m1 r
       add_holding x = record { tree = code x.v; rest = x.rest; have = (adds.runs (many_two x)).have }
 
-      no_add : (m2 : List ℕ) (k2 : ℕ) → Released m1 m2 r → k2 ≤ k1 + 5 → Done m2 None k k2
-      no_add m2 k2 gone drops x zero fits = absurd (omega arith)
-      no_add m2 k2 gone drops x (suc steps) fits =
+      no_add : {m2 : List ℕ} {k2 : ℕ} → Released m1 m2 r → k2 ≤ k1 + 5 → Done n m m2 l r None k k2
+      no_add gone drops x zero fits = absurd (omega arith)
+      no_add gone drops x (suc steps) fits =
           let o = adds.runs (many_two x) in
           let h = 52 * height (repeat_onto (suc steps) x.u x.v n) + 480 in
           let within = cells_within x.u x.v x.v (size x.u + n * size x.v) x.fit.left x.fit.right x.fit.right (omega (arith, two_few n (size x.v) many)) in
@@ -166,14 +172,14 @@ module _ (n : ℕ) (many : 2 ≤ n) (m : List ℕ) (l r : ℕ) where
             cost = omega (arith, o.cost, concat_price_few x.u x.v, repeat_high (suc steps) x.u x.v n x.fit.left x.fit.right (omega arith) fits, suc-mul steps h);
           }
 
-      pub repeats_no_add : (m2 : List ℕ) (k2 : ℕ) → Released m1 m2 r → k2 ≤ k1 + 5 → Repeats n m m2 l r None k k2
-      repeats_no_add m2 k2 gone drops = record { runs = no_add m2 k2 gone drops }
+      pub repeats_no_add : {m2 : List ℕ} {k2 : ℕ} → Released m1 m2 r → k2 ≤ k1 + 5 → Repeats n m m2 l r None k k2
+      repeats_no_add gone drops = record { runs = no_add gone drops }
 
-    module _ (s : Ref) (adds : Adds odd m m1 l r (Some s) k k1) where
-      pub start_size : (x : Two (Copied n) m l r 200) → size (odd_onto odd x.u x.v) + n / 2 * size (concat x.v x.v) ≡ size x.u + n * size x.v
-      start_size x = ap (λ b. size (odd_onto b x.u x.v) + n / 2 * size (concat x.v x.v)) is_odd_n ∙ odd_size n x.u x.v
+    module _ {s : Ref} (adds : Adds n m m1 l r (Some s) k k1) where
+      pub start_size : (x : Two (Copied n) m l r 200) → size (odd_onto n x.u x.v) + n / 2 * size (concat x.v x.v) ≡ size x.u + n * size x.v
+      start_size x = odd_size n x.u x.v
 
-      pub bytes_left : (x : Two (Copied n) m l r 200) → size (odd_onto odd x.u x.v) + (size x.v + size x.v) ≤ size x.u + n * size x.v
+      pub bytes_left : (x : Two (Copied n) m l r 200) → size (odd_onto n x.u x.v) + (size x.v + size x.v) ≤ size x.u + n * size x.v
       bytes_left x =
           let some : 1 ≤ n / 2 = omega arith in
           let t = size (concat x.v x.v) in
@@ -185,63 +191,60 @@ module _ (n : ℕ) (many : 2 ≤ n) (m : List ℕ) (l r : ℕ) where
           let few : size x.v + size x.v < 536870912 = omega (arith, bytes_left x, x.fit.few) in
           record {
             t = x.v;
-            rest = item s.0 (code (odd_onto odd x.u x.v)) ∷ x.rest;
+            rest = item s.0 (code (odd_onto n x.u x.v)) ∷ x.rest;
             fit = record { whole = x.fit.right; few = few };
             have = swap_have m1 _ _ _ (adds.runs (many_two x)).have;
             few = omega (arith, x.few, short_low x.v (record { whole = x.fit.right; few = omega (arith, few) }));
           }
 
-      module _ (m2 : List ℕ) (long2 : length m2 ≡ length m1) (k2 : ℕ) where
+      module _ {m2 : List ℕ} (long2 : length m2 ≡ length m1) {k2 : ℕ} where
         module _ (dbl : Doubles m1 m2 r None k1 k2) where
           pub start_holding : Two (Copied n) m l r 200 → Holding m2 s.0
-          start_holding x = record { tree = code (odd_onto odd x.u x.v); rest = x.rest; have = (dbl.runs (add_one x)).have }
+          start_holding x = record { tree = code (odd_onto n x.u x.v); rest = x.rest; have = (dbl.runs (add_one x)).have }
 
-          no_double : (m3 : List ℕ) (k3 : ℕ) → Released m2 m3 s.0 → k3 ≤ k2 + 5 → Done m3 None k k3
-          no_double m3 k3 gone drops x zero fits = absurd (omega arith)
-          no_double m3 k3 gone drops x (suc steps) fits =
+          no_double : {m3 : List ℕ} {k3 : ℕ} → Released m2 m3 s.0 → k3 ≤ k2 + 5 → Done n m m3 l r None k k3
+          no_double gone drops x zero fits = absurd (omega arith)
+          no_double gone drops x (suc steps) fits =
               let o = adds.runs (many_two x) in
               let q = dbl.runs (add_one x) in
-              let start = odd_onto odd x.u x.v in
+              let start = odd_onto n x.u x.v in
               let h = 52 * height (repeat_onto (suc steps) x.u x.v n) + 480 in
-              let within = cells_within start x.v x.v (size x.u + n * size x.v) (odd_whole odd x.u x.v x.fit.left x.fit.right) x.fit.right x.fit.right (omega (arith, bytes_left x)) in
+              let within = cells_within start x.v x.v (size x.u + n * size x.v) (odd_whole n x.u x.v x.fit.left x.fit.right) x.fit.right x.fit.right (omega (arith, bytes_left x)) in
               record {
                 have = gone.have (code start) _ q.have;
                 full = λ _. omega (arith, q.full refl, within, nodes_code start);
                 cost = omega (arith, o.cost, q.cost, concat_price_few x.u x.v, repeat_high (suc steps) x.u x.v n x.fit.left x.fit.right (omega arith) fits, suc-mul steps h);
               }
 
-          pub repeats_no_double : (m3 : List ℕ) (k3 : ℕ) → Released m2 m3 s.0 → k3 ≤ k2 + 5 → Repeats n m m3 l r None k k3
-          repeats_no_double m3 k3 gone drops = record { runs = no_double m3 k3 gone drops }
+          pub repeats_no_double : {m3 : List ℕ} {k3 : ℕ} → Released m2 m3 s.0 → k3 ≤ k2 + 5 → Repeats n m m3 l r None k k3
+          repeats_no_double gone drops = record { runs = no_double gone drops }
 
-        module _ (w : Ref) (dbl : Doubles m1 m2 r (Some w) k1 k2) (count : ℕ) (is_half : count ≡ n / 2) where
-          pub half_size : (x : Two (Copied n) m l r 200) → size (odd_onto odd x.u x.v) + count * size (concat x.v x.v) ≡ size x.u + n * size x.v
-          half_size x = ap (λ z. size (odd_onto odd x.u x.v) + z * size (concat x.v x.v)) is_half ∙ start_size x
-
-          abbrev pub half_two : Two (Copied n) m l r 200 → Two (Copied count) m2 s.0 w.0 200
+        module _ {w : Ref} (dbl : Doubles m1 m2 r (Some w) k1 k2) where
+          abbrev pub half_two : Two (Copied n) m l r 200 → Two (Copied (n / 2)) m2 s.0 w.0 200
           half_two x =
               record {
-                u = odd_onto odd x.u x.v;
+                u = odd_onto n x.u x.v;
                 v = concat x.v x.v;
                 rest = x.rest;
                 fit = record {
-                  left = odd_whole odd x.u x.v x.fit.left x.fit.right;
+                  left = odd_whole n x.u x.v x.fit.left x.fit.right;
                   right = (concat_ok x.v x.v x.fit.right x.fit.right).whole;
-                  few = omega (arith, half_size x, x.fit.few);
+                  few = omega (arith, start_size x, x.fit.few);
                 };
                 have = swap_have m2 _ _ _ (dbl.runs (add_one x)).have;
                 few = x.few;
               }
 
-          module _ (m3 : List ℕ) (d : Option Ref) (k3 : ℕ) (last : Repeats count m2 m3 s.0 w.0 d k2 k3) where
-            half : Done m3 d k k3
+          module _ {m3 : List ℕ} {d : Option Ref} {k3 : ℕ} (last : Repeats (n / 2) m2 m3 s.0 w.0 d k2 k3) where
+            half : Done n m m3 l r d k k3
             half x zero fits = absurd (omega arith)
             half x (suc steps) fits =
-                let o = last.runs (half_two x) steps (subst (λ z. z < 2 ^ steps) (sym is_half) (halved n steps fits)) in
-                let is : repeat_onto (suc steps) x.u x.v n ≡ repeat_onto steps (odd_onto odd x.u x.v) (concat x.v x.v) count = repeat_more steps x.u x.v n many ∙ (ap (λ b. repeat_onto steps (odd_onto b x.u x.v) (concat x.v x.v) (n / 2)) (sym is_odd_n) ∙ ap (repeat_onto steps (odd_onto odd x.u x.v) (concat x.v x.v)) (sym is_half)) in
+                let o = last.runs (half_two x) steps (halved n steps fits) in
+                let is : repeat_onto (suc steps) x.u x.v n ≡ repeat_onto steps (odd_onto n x.u x.v) (concat x.v x.v) (n / 2) = repeat_more steps x.u x.v n many in
                 let h = 52 * height (repeat_onto (suc steps) x.u x.v n) + 480 in
                 record {
                   have = subst (λ t. Have m3 (opt d (code t) x.rest)) (sym is) o.have;
-                  full = λ e. omega (arith, o.full e, ap (λ z. z / 12) (half_size x));
+                  full = λ e. omega (arith, o.full e, ap (λ z. z / 12) (start_size x));
                   cost = omega (
                     arith,
                     o.cost,

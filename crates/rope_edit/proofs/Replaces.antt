@@ -16,7 +16,6 @@ use Rattle.rope.specs.declared.cutting.Cut.{Cut}
 use Rattle.rope.specs.Building.{Two, Any, concat_price}
 use Rattle.rope.specs.Cutting.{One, Short, Splits}
 use Rattle.rope.proofs.Splits.{front_size}
-use Rattle.rope_edit.specs.declared.slicing.Part.TheVariants.{Front}
 use Rattle.rope_edit.specs.Editing.{Keeps, Follows, Replaces}
 use Rattle.rope_edit.proofs.Slices.{front_short, short_low}
 use Rattle.rope_edit.proofs.Follows.{opt_swap_behind, concat_short, Pending, pending_few, concat_price_few, pending_after}
@@ -102,7 +101,7 @@ module _ (a b : ℕ) (m : List ℕ) (p q : ℕ) where
             few = omega (arith, x.few, short_low (front x.u b) s);
           }
 
-      module _ (m2 : List ℕ) (d2 : Option Ref) (n2 : ℕ) (keeps : Keeps Front a m1 m2 c.front.0 d2 n1 n2) (long2 : length m2 ≡ length m1) where
+      module _ (m2 : List ℕ) (d2 : Option Ref) (n2 : ℕ) (keeps : Keeps front a m1 m2 c.front.0 d2 n1 n2) (long2 : length m2 ≡ length m1) where
         abbrev pub start_pending : Two Any m p q 200 → Pending m2 d2 q
         start_pending x =
             let o = keeps.runs (front_cut x) in

@@ -1,21 +1,17 @@
 -- What the edits ask, and what they leave: which rope is held in the place of what was taken over, which bytes it has, why there may be
 -- no room for it, and what it costs. What else is held stays.
-use Rattle.std.specs.Prelude.{◌≡◌, ℕ, ◌+◌, ◌-◌, ◌*◌, ◌/◌, ◌^◌, ◌<◌, ◌≤◌, max, Bool, cond, List, ◌∷◌, length, Some, None, Option}
+use Rattle.std.specs.Prelude.{◌≡◌, ℕ, ◌+◌, ◌-◌, ◌*◌, ◌/◌, ◌%◌, ◌^◌, ◌<◌, ◌≤◌, max, cond, ◌==◌, List, ◌∷◌, length, Some, None, Option}
 use Rattle.cells.specs.declared.cell.Ref.{Ref}
-use Rattle.cells.specs.Tree.{Tree}
 use Rattle.cells.specs.Have.{Item, item, Have, Lent, all_nodes}
 use Rattle.cells.specs.Steps.{Holding, Released}
 use Rattle.spec.specs.Text.{part, replaced, copies}
 use Rattle.ropes.specs.Rope.{Rope, empty, bytes, size, height, cells, Whole}
 use Rattle.ropes.specs.Join.{concat}
-use Rattle.ropes.specs.Cut.{front, back, slice, replace, repeat_onto}
+use Rattle.ropes.specs.Cut.{slice, replace, repeat_onto}
 use Rattle.ropes.specs.Build.{from_bytes}
 use Rattle.rope_cells.specs.Coded.{code}
-use Rattle.rope.specs.declared.cutting.Cut.{Cut}
 use Rattle.rope.specs.Building.{After, Two, Joins, Any, Free, concat_price}
 use Rattle.rope.specs.Cutting.{One, Short}
-use Rattle.rope_edit.specs.declared.slicing.Part.{Part}
-use Rattle.rope_edit.specs.declared.slicing.Part.TheVariants.{Front, Back}
 
 -- a rope is lent, and few references are held
 pub record Lend (m : List ℕ) (p : ℕ) : Type 0 where
@@ -26,27 +22,9 @@ pub record Lend (m : List ℕ) (p : ℕ) : Type 0 where
   pub lent : Lent m p (code t)
   pub few : length rest + 200 < 2147483640
 
--- from m to m' one more reference was made to what p refers to
-pub record Another (m m' : List ℕ) (p q : ℕ) : Type 0 where
-  pub have : (v : Tree) (rest : List Item) → Lent m p v → Have m rest → Have m' (item q v ∷ rest)
-
--- the part in question of a rope that is cut
-abbrev pub part_of : Part → Rope → ℕ → Rope
-part_of Front t at = front t at
-part_of Back t at = back t at
-
--- and its reference, and the other part's
-abbrev pub chosen : Part → Cut → Ref
-chosen Front c = c.front
-chosen Back c = c.back
-
-abbrev pub other : Part → Cut → Ref
-other Front c = c.back
-other Back c = c.front
-
 -- of a rope that was cut one part is kept
-pub record Keeps (which : Part) (at : ℕ) (m m' : List ℕ) (p : ℕ) (d : Option Ref) (before after : ℕ) : Type 0 where
-  pub runs : (x : One Short m p 160) → After m m' d (part_of which x.t at) x.rest (cells x.t + all_nodes x.rest + 1) after (before + (354 * height x.t + 12))
+pub record Keeps (part : Rope → ℕ → Rope) (at : ℕ) (m m' : List ℕ) (p : ℕ) (d : Option Ref) (before after : ℕ) : Type 0 where
+  pub runs : (x : One Short m p 160) → After m m' d (part x.t at) x.rest (cells x.t + all_nodes x.rest + 1) after (before + (354 * height x.t + 12))
 
 -- a part of a rope that stays lent as long as what it is held by is held
 pub record Slices (a b : ℕ) (m m' : List ℕ) (p : ℕ) (d : Option Ref) (before after : ℕ) : Type 0 where
@@ -94,13 +72,13 @@ abbrev pub copied_most : ℕ → Rope → Rope → List Item → ℕ
 copied_most n u v rest = (size u + n * size v) / 12 + all_nodes rest + 4
 
 -- the second once behind the first where the count is odd
-abbrev pub odd_onto : Bool → Rope → Rope → Rope
-odd_onto odd u v = cond odd (concat u v) u
+abbrev pub odd_onto : ℕ → Rope → Rope → Rope
+odd_onto n u v = cond (n % 2 == 0) u (concat u v)
 
 -- and still held
-pub record Adds (odd : Bool) (m m' : List ℕ) (l r : ℕ) (d : Option Ref) (before after : ℕ) : Type 0 where
+pub record Adds (n : ℕ) (m m' : List ℕ) (l r : ℕ) (d : Option Ref) (before after : ℕ) : Type 0 where
   pub runs : (x : Two Any m l r 200)
-      → After m m' d (odd_onto odd x.u x.v) (item r (code x.v) ∷ x.rest) (cells x.u + cells x.v + cells x.v + all_nodes x.rest + 1) after (before + (concat_price x.u x.v + 2))
+      → After m m' d (odd_onto n x.u x.v) (item r (code x.v) ∷ x.rest) (cells x.u + cells x.v + cells x.v + all_nodes x.rest + 1) after (before + (concat_price x.u x.v + 2))
 
 -- a rope that is to be doubled
 pub record Twice (t : Rope) : Type 0 where

@@ -6,11 +6,11 @@ ghost use Rattle.rope_edit.specs.Editing.{Builds};
 
 use cells::{NONE, Ref, release};
 use rope::{leaf, node};
-use rope_cells::LEAF_MAX;
+use rope_cells::{LEAF_MAX, LEAF_MIN};
 use words::Words;
 
 /// How many bytes fill a leaf and give another as many as it needs beside others.
-const TWO_LEAVES: usize = 72;
+const TWO_LEAVES: usize = LEAF_MAX + LEAF_MIN;
 
 /// How many of `n` bytes, too many for a leaf, go to the left.
 fn left_part(n: usize) -> usize
@@ -21,7 +21,7 @@ fn left_part(n: usize) -> usize
     if n < TWO_LEAVES {
         n / 2
     } else {
-        LEAF_MAX * ((n + 47) / 96)
+        LEAF_MAX * (n.div_ceil(LEAF_MAX) / 2)
     }
 }
 

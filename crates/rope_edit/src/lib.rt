@@ -1,10 +1,11 @@
 //! Ropes made of ropes and of bytes: parts, replacements, building and repeating.
 #![tactic(auto)]
 
+// Kept: `kept` stays a clause of each function: it holds whatever rope is meant, so it can't move into the records of what became of one, which hold for each rope that is held there.
+
 mod building;
 mod repeating;
 mod replacing;
-mod sharing;
 mod slicing;
 
 pub use building::from_bytes;

@@ -1,44 +1,25 @@
 //! A rope many times, by doubling.
-ghost use Rattle.std.specs.Prelude.{◌≡◌, ℕ, ◌+◌, ◌/◌, ◌%◌, ◌≤◌, ◌==◌};
+ghost use Rattle.std.specs.Prelude.{ℕ, ◌+◌, ◌≤◌};
 ghost use Rattle.cells.specs.Steps.{Kept};
 ghost use Rattle.rope.specs.Building.{Two, Any};
 ghost use Rattle.rope.specs.Cutting.{One};
 ghost use Rattle.rope_edit.specs.Editing.{Copied, Adds, Twice, Doubles, Repeats, Times, Repeated};
 
-use crate::sharing::another;
-use cells::{NONE, Ref, release};
+use cells::{NONE, Ref, release, share};
 use rope::concat;
 use words::Words;
 
-/// A count in binary: its lowest digit, and the count that the others make.
-#[derive(Clone, Copy)]
-struct Digits {
-    odd: bool,
-    half: u32,
-}
-
-/// The digits of a count.
-fn digits_of(n: u32) -> Digits
-    ensures odd { result.odd ≡ (n % 2 == 1) }
-    ensures half { result.half ≡ n / 2 }
-{
-    Digits {
-        odd: n % 2 == 1,
-        half: n / 2,
-    }
-}
-
-/// The rope `before`, and `t` once behind it where it is `odd`. `t` is still held.
-fn add_odd<W: Words>(words: &mut W, before: Ref, t: Ref, odd: bool) -> Option<Ref>
+/// The rope `before`, and `t` once behind it where `n` is odd. `t` is still held.
+fn add_odd<W: Words>(words: &mut W, before: Ref, t: Ref, n: u32) -> Option<Ref>
     requires { Two Any (W.Words.row words.old) before.0 t.0 200 }
-    ensures adds { Adds odd (W.Words.row words.old) (W.Words.row words.new) before.0 t.0 result (W.touched words.old) (W.touched words.new) }
+    ensures adds { Adds n (W.Words.row words.old) (W.Words.row words.new) before.0 t.0 result (W.touched words.old) (W.touched words.new) }
     ensures kept { Kept (W.Words.row words.old) (W.Words.row words.new) }
 {
-    if !odd {
+    if n % 2 == 0 {
         return Some(before);
     }
-    let once = another(words, t);
-    concat(words, before, once)
+    share(words, t);
+    concat(words, before, t)
 }
 
 /// The rope twice.
@@ -47,8 +28,8 @@ fn double<W: Words>(words: &mut W, t: Ref) -> Option<Ref>
     ensures doubles { Doubles (W.Words.row words.old) (W.Words.row words.new) t.0 result (W.touched words.old) (W.touched words.new) }
     ensures kept { Kept (W.Words.row words.old) (W.Words.row words.new) }
 {
-    let again = another(words, t);
-    concat(words, t, again)
+    share(words, t);
+    concat(words, t, t)
 }
 
 /// The rope `before`, and `t` behind it `n` times.
@@ -64,8 +45,7 @@ fn repeat_onto<W: Words>(words: &mut W, before: Ref, t: Ref, n: u32) -> Option<R
     if n == 1 {
         return concat(words, before, t);
     }
-    let digits = digits_of(n);
-    let Some(start) = add_odd(words, before, t, digits.odd) else {
+    let Some(start) = add_odd(words, before, t, n) else {
         release(words, t);
         return None;
     };
@@ -73,7 +53,7 @@ fn repeat_onto<W: Words>(words: &mut W, before: Ref, t: Ref, n: u32) -> Option<R
         release(words, start);
         return None;
     };
-    repeat_onto(words, start, twice, digits.half)
+    repeat_onto(words, start, twice, n / 2)
 }
 
 /// The rope `n` times.

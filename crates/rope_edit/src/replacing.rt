@@ -4,7 +4,7 @@ ghost use Rattle.cells.specs.Steps.{Kept};
 ghost use Rattle.rope.specs.Building.{Two, Any};
 ghost use Rattle.rope_edit.specs.Editing.{Following, Follows, Replaces};
 
-use crate::slicing::{Part, keep};
+use crate::slicing::keep_front;
 use cells::{Ref, release};
 use rope::{concat, split};
 use words::Words;
@@ -15,13 +15,11 @@ fn concat_onto<W: Words>(words: &mut W, first: Option<Ref>, second: Ref) -> Opti
     ensures follows { Follows (W.Words.row words.old) (W.Words.row words.new) first second.0 result (W.touched words.old) (W.touched words.new) }
     ensures kept { Kept (W.Words.row words.old) (W.Words.row words.new) }
 {
-    match first {
-        Some(first) => concat(words, first, second),
-        None => {
-            release(words, second);
-            None
-        }
-    }
+    let Some(first) = first else {
+        release(words, second);
+        return None;
+    };
+    concat(words, first, second)
 }
 
 /// The rope with the bytes from place `a` up to place `b` replaced by those of `new`.
@@ -35,7 +33,7 @@ pub fn replace<W: Words>(words: &mut W, t: Ref, a: u32, b: u32, new: Ref) -> Opt
         release(words, new);
         return None;
     };
-    let front = keep(words, cut.front, a, Part::Front);
+    let front = keep_front(words, cut.front, a);
     let start = concat_onto(words, front, new);
     concat_onto(words, start, cut.back)
 }

@@ -1,17 +1,15 @@
-use Rattle.cells.proofs.Sharings.{kept_on}
 use Rattle.rope_edit.proofs.Repeats.{odd_sharing, odd_two, adds_once}
 use Rattle.rope_edit.proofs.repeating.add_odd.Goals as goal
 
-pub another-once-requires : goal.another-once-requires
-another-once-requires g c = odd_sharing _ _ _ c.requires
+pub share-requires : goal.share-requires
+share-requires g c = odd_sharing c.requires
 
 pub concat-requires : goal.concat-requires
 concat-requires g c =
-    let s = c.another-once.ensures in
-    odd_two _ _ _ _ _ s.another s.kept.long _ _ s.touches c.requires
+    let s = c.share.ensures in
+    odd_two s.shared s.kept.long _ s.touches c.requires
 
-pub returns : goal.returns
-returns g c =
-    let s = c.another-once.ensures in
-    let o = c.concat.ensures in
-    record { adds = rw c.if-not-odd.false (adds_once _ _ _ _ _ s.another s.kept.long _ _ s.touches _ _ _ o.joins); kept = kept_on _ _ _ s.kept o.kept }
+pub returns-clause-adds : goal.returns-clause-adds
+returns-clause-adds g c =
+    let s = c.share.ensures in
+    adds_once s.shared s.kept.long _ s.touches c.if-n-eq0.false c.concat.ensures.joins

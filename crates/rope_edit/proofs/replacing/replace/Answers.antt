@@ -18,28 +18,28 @@ returns-in_default g c =
     let all = replaces_none c.args.a c.args.b _ _ _ _ s.kept.long _ _ s.cuts _ _ gone.released gone.touches in
     record { replaces = all; kept = kept_on _ _ _ s.kept gone.kept; quick = replaces_quick _ _ _ _ _ _ _ _ _ c.requires all }
 
-pub keep-front-requires : goal.keep-front-requires
-keep-front-requires g c =
+pub keep_front-front-requires : goal.keep_front-front-requires
+keep_front-front-requires g c =
     let s = c.in-Some.ensures in
     front_cut c.args.a c.args.b _ _ _ _ s.kept.long _ _ _ s.cuts c.requires
 
 pub concat_onto-start-requires : goal.concat_onto-start-requires
 concat_onto-start-requires g c =
     let s = c.in-Some.ensures in
-    let k = c.keep-front.ensures in
+    let k = c.keep_front-front.ensures in
     pending_following _ _ _ (start_pending c.args.a c.args.b _ _ _ _ s.kept.long _ _ _ s.cuts _ _ _ k.keeps k.kept.long c.requires)
 
 pub concat_onto-requires : goal.concat_onto-requires
 concat_onto-requires g c =
     let s = c.in-Some.ensures in
-    let k = c.keep-front.ensures in
+    let k = c.keep_front-front.ensures in
     let f = c.concat_onto-start.ensures in
     pending_following _ _ _ (end_pending c.args.a c.args.b _ _ _ _ s.kept.long _ _ _ s.cuts _ _ _ k.keeps k.kept.long _ _ _ f.follows f.kept.long c.requires)
 
 pub returns : goal.returns
 returns g c =
     let s = c.in-Some.ensures in
-    let k = c.keep-front.ensures in
+    let k = c.keep_front-front.ensures in
     let f = c.concat_onto-start.ensures in
     let o = c.concat_onto.ensures in
     let all = replaces_some c.args.a c.args.b _ _ _ _ s.kept.long _ _ _ s.cuts _ _ _ k.keeps k.kept.long _ _ _ f.follows f.kept.long _ _ _ o.follows o.kept.long in

@@ -1,31 +1,59 @@
-use Rattle.cells.proofs.Sharings.{kept_on}
-use Rattle.rope_edit.proofs.Slices.{lend_sharing, lend_one, front_one, slices_none, slices_some, slices_quick}
+use Rattle.ropes.specs.Cut.{back}
+use Rattle.rope_edit.proofs.Slices.{lend_sharing, lend_one, front_one, front_holding, keeps_back, keeps_none, slices_none, slices_some, slices_quick}
 use Rattle.rope_edit.proofs.slicing.slice.Goals as goal
 
-pub another-own-requires : goal.another-own-requires
-another-own-requires g c = lend_sharing c.args.a c.args.b _ _ c.requires
+pub share-requires : goal.share-requires
+share-requires g c = lend_sharing c.args.a c.args.b c.requires
 
-pub keep-requires : goal.keep-requires
-keep-requires g c =
-    let s = c.another-own.ensures in
-    lend_one c.args.a c.args.b _ _ _ _ s.another s.kept.long _ _ s.touches c.requires
+pub keep_front-requires : goal.keep_front-requires
+keep_front-requires g c =
+    let s = c.share.ensures in
+    lend_one c.args.a c.args.b s.shared s.kept.long _ s.touches c.requires
 
-pub returns-in_err-front : goal.returns-in_err-front
-returns-in_err-front g c =
-    let s = c.another-own.ensures in
+pub returns-in_err-front-clause-slices : goal.returns-in_err-front-clause-slices
+returns-in_err-front-clause-slices g c =
+    let s = c.share.ensures in
     let o = c.in_err-front.ensures in
-    let all = slices_none c.args.a c.args.b _ _ _ _ s.another s.kept.long _ _ s.touches _ o.kept.long _ o.keeps in
-    record { slices = rw c.from_residual.ensures all; kept = kept_on _ _ _ s.kept o.kept; quick = slices_quick _ _ _ _ _ _ _ _ c.requires all }
+    rw c.from_residual.ensures (slices_none c.args.a c.args.b s.shared s.kept.long _ s.touches o.kept.long o.keeps)
 
-pub keep-requires-2 : goal.keep-requires-2
-keep-requires-2 g c =
-    let s = c.another-own.ensures in
-    let o = c.in_ok-front.ensures in
-    front_one c.args.a c.args.b _ _ _ _ s.another s.kept.long _ _ s.touches _ o.kept.long _ _ o.keeps c.requires
+pub returns-in_err-front-clause-quick : goal.returns-in_err-front-clause-quick
+returns-in_err-front-clause-quick g c =
+    let s = c.share.ensures in
+    let o = c.in_err-front.ensures in
+    slices_quick _ c.requires (slices_none c.args.a c.args.b s.shared s.kept.long _ s.touches o.kept.long o.keeps)
 
-pub returns : goal.returns
-returns g c =
-    let s = c.another-own.ensures in
+pub split-requires : goal.split-requires
+split-requires g c =
+    let s = c.share.ensures in
     let o = c.in_ok-front.ensures in
-    let all = slices_some c.args.a c.args.b _ _ _ _ s.another s.kept.long _ _ s.touches _ o.kept.long _ _ o.keeps _ _ _ c.keep-2.ensures.keeps in
-    record { slices = all; kept = kept_on _ _ _ s.kept (kept_on _ _ _ o.kept c.keep-2.ensures.kept); quick = slices_quick _ _ _ _ _ _ _ _ c.requires all }
+    front_one c.args.a c.args.b s.shared s.kept.long _ s.touches o.kept.long o.keeps c.requires
+
+pub returns-in_err-cut-clause-slices : goal.returns-in_err-cut-clause-slices
+returns-in_err-cut-clause-slices g c =
+    let s = c.share.ensures in
+    let o = c.in_ok-front.ensures in
+    rw c.from_residual-in_err-cut.ensures (slices_some c.args.a c.args.b s.shared s.kept.long _ s.touches o.kept.long o.keeps (keeps_none back c.in_err-cut.ensures.cuts))
+
+pub returns-in_err-cut-clause-quick : goal.returns-in_err-cut-clause-quick
+returns-in_err-cut-clause-quick g c =
+    let s = c.share.ensures in
+    let o = c.in_ok-front.ensures in
+    slices_quick _ c.requires (slices_some c.args.a c.args.b s.shared s.kept.long _ s.touches o.kept.long o.keeps (keeps_none back c.in_err-cut.ensures.cuts))
+
+pub release-requires : goal.release-requires
+release-requires g c =
+    let s = c.share.ensures in
+    let o = c.in_ok-front.ensures in
+    front_holding c.in_ok-cut.ensures.cuts (front_one c.args.a c.args.b s.shared s.kept.long _ s.touches o.kept.long o.keeps c.requires)
+
+pub returns-clause-slices : goal.returns-clause-slices
+returns-clause-slices g c =
+    let s = c.share.ensures in
+    let o = c.in_ok-front.ensures in
+    slices_some c.args.a c.args.b s.shared s.kept.long _ s.touches o.kept.long o.keeps (keeps_back c.in_ok-cut.ensures.cuts c.release.ensures.touches c.release.ensures.released)
+
+pub returns-clause-quick : goal.returns-clause-quick
+returns-clause-quick g c =
+    let s = c.share.ensures in
+    let o = c.in_ok-front.ensures in
+    slices_quick _ c.requires (slices_some c.args.a c.args.b s.shared s.kept.long _ s.touches o.kept.long o.keeps (keeps_back c.in_ok-cut.ensures.cuts c.release.ensures.touches c.release.ensures.released))
