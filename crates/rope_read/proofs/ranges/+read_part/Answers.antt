@@ -9,12 +9,20 @@ use Rattle.rope_read.proofs.Descents.{lends_leaf}
 use Rattle.rope_read.proofs.Spans.{Forked, forked, sized_high, sized_text, middle_bounds, left_sized, right_sized, left_low, right_low, range_left, range_right, range_both, price_leaf, price_left, price_right, price_both}
 use Rattle.rope_read.proofs.ranges.+read_part.Goals as goal
 
--- the node that is opened, and the number of bytes to its left
+-- the node that is opened
 node_of : {m : List ℕ} {p n : ℕ} {b : Bool} (x : Sized m p n) → ((y : Sized m p n) → b ≡ eqb (height y.lends.rope) 1) → b ≡ false → Forked m p n (height x.lends.rope)
 node_of x is no_leaf = forked x (eqb-false _ _ (sym (is x) ∙ no_leaf))
 
-sum_of : {m m' : List ℕ} {p r : ℕ} → m' ≡ m → ((x : LendsChildren m' p) → r ≡ length (bytes x.left)) → (x : LendsChildren m p) → r ≡ length (bytes x.left)
-sum_of {p = p} {r = r} e f = subst (λ z. (x : LendsChildren z p) → r ≡ length (bytes x.left)) e f
+-- and the number of bytes to its left, where that was read
+record Opened (m m' : List ℕ) (p n high mid : ℕ) : Type 0 where
+  node : Forked m p n high
+  is : mid ≡ length (bytes node.children.left)
+  same : m' ≡ m
+
+opened : {m m1 m2 : List ℕ} {p n mid : ℕ} {b : Bool} (x : Sized m p n) → ((y : Sized m p n) → b ≡ eqb (height y.lends.rope) 1) → b ≡ false → m1 ≡ m → ((z : LendsChildren m1 p) → mid ≡ length (bytes z.left)) → m2 ≡ m1 → Opened m m2 p n (height x.lends.rope) mid
+opened {p = p} {mid = mid} x tells no_leaf e is e2 =
+    let y = node_of x tells no_leaf in
+    record { node = y; is = subst (λ z. (w : LendsChildren z p) → mid ≡ length (bytes w.left)) e is y.children; same = e2 ∙ e }
 
 pub read_in_leaf-requires : goal.read_in_leaf-requires
 read_in_leaf-requires g t c =
@@ -37,13 +45,11 @@ read_part-requires g t c κs within =
     let m = row c.args.words.now in
     let test = c.is_leaf.ensures in
     let mid = c.left_sum-middle.ensures in
-    let y = node_of c.requires.rope test.value c.if-is_leaf.false in
-    let is = sum_of test.same mid.value y.children in
-    let b = middle_bounds y is in
-    let same : row c.left_sum-middle.new.words ≡ m = mid.same ∙ test.same in
+    let o = opened c.requires.rope test.value c.if-is_leaf.false test.same mid.value mid.same in
+    let b = middle_bounds o.node o.is in
     let q = c.left-q.ensures in
-    let read : LeftRead m c.args.p.0 c.left-q.result.0 = rw same at q.lent in
-    (omega (arith, b, c.decreases), (within, (rw (q.same ∙ same) (left_sized y is read), c.if-from-into.true)))
+    let read : LeftRead m c.args.p.0 c.left-q.result.0 = rw o.same at q.lent in
+    (omega (arith, b, c.decreases), (within, (rw (q.same ∙ o.same) (left_sized o.node o.is read), c.if-from-into.true)))
 
 pub returns-then-from-into-clause-value : goal.returns-then-from-into-clause-value
 returns-then-from-into-clause-value g t c =
@@ -51,12 +57,10 @@ returns-then-from-into-clause-value g t c =
     let m = row c.args.words.now in
     let test = c.is_leaf.ensures in
     let mid = c.left_sum-middle.ensures in
-    let y = node_of c.requires.rope test.value c.if-is_leaf.false in
-    let is = sum_of test.same mid.value y.children in
-    let same : row c.left_sum-middle.new.words ≡ m = mid.same ∙ test.same in
+    let o = opened c.requires.rope test.value c.if-is_leaf.false test.same mid.value mid.same in
     let q = c.left-q.ensures in
-    let read : LeftRead m c.args.p.0 c.left-q.result.0 = rw same at q.lent in
-    rw (q.same ∙ same) at c.read_part.ensures.value ∙ range_left y is c.args.from (length c.args.into.now) read c.if-from-into.true
+    let read : LeftRead m c.args.p.0 c.left-q.result.0 = rw o.same at q.lent in
+    rw (q.same ∙ o.same) at c.read_part.ensures.value ∙ range_left o.node o.is c.args.from (length c.args.into.now) read c.if-from-into.true
 
 pub returns-then-from-into-clause-touches : goal.returns-then-from-into-clause-touches
 returns-then-from-into-clause-touches g t c = λ x.
@@ -64,14 +68,12 @@ returns-then-from-into-clause-touches g t c = λ x.
     let m = row c.args.words.now in
     let test = c.is_leaf.ensures in
     let mid = c.left_sum-middle.ensures in
-    let y = node_of x test.value c.if-is_leaf.false in
-    let is = sum_of test.same mid.value y.children in
-    let b = middle_bounds y is in
-    let same : row c.left_sum-middle.new.words ≡ m = mid.same ∙ test.same in
+    let o = opened x test.value c.if-is_leaf.false test.same mid.value mid.same in
+    let b = middle_bounds o.node o.is in
     let q = c.left-q.ensures in
-    let read : LeftRead m c.args.p.0 c.left-q.result.0 = rw same at q.lent in
-    let down = (rw (q.same ∙ same) at c.read_part.ensures.touches) (left_sized y is read) in
-    omega (arith, test.touches, mid.touches, q.touches, down, price_left _ c.args.size _ c.args.from (length c.args.into.now) b.0 b.1 _ (left_low y is) c.if-from-into.true)
+    let read : LeftRead m c.args.p.0 c.left-q.result.0 = rw o.same at q.lent in
+    let down = (rw (q.same ∙ o.same) at c.read_part.ensures.touches) (left_sized o.node o.is read) in
+    omega (arith, test.touches, mid.touches, q.touches, down, price_left _ c.args.size _ c.args.from (length c.args.into.now) b.0 b.1 _ (left_low o.node o.is) c.if-from-into.true)
 
 pub read_part-requires-then-middle-from : goal.read_part-requires-then-middle-from
 read_part-requires-then-middle-from g t c κs within =
@@ -79,13 +81,11 @@ read_part-requires-then-middle-from g t c κs within =
     let m = row c.args.words.now in
     let test = c.is_leaf.ensures in
     let mid = c.left_sum-middle.ensures in
-    let y = node_of c.requires.rope test.value c.if-is_leaf.false in
-    let is = sum_of test.same mid.value y.children in
-    let b = middle_bounds y is in
-    let same : row c.left_sum-middle.new.words ≡ m = mid.same ∙ test.same in
+    let o = opened c.requires.rope test.value c.if-is_leaf.false test.same mid.value mid.same in
+    let b = middle_bounds o.node o.is in
     let q = c.right-q.ensures in
-    let read : RightRead m c.args.p.0 c.right-q.result.0 = rw same at q.lent in
-    (omega (arith, b, c.decreases), (within, (rw (q.same ∙ same) (right_sized y is read), omega (arith, c.requires.inside, c.if-middle-from.true, b.2))))
+    let read : RightRead m c.args.p.0 c.right-q.result.0 = rw o.same at q.lent in
+    (omega (arith, b, c.decreases), (within, (rw (q.same ∙ o.same) (right_sized o.node o.is read), omega (arith, c.requires.inside, c.if-middle-from.true, b.2))))
 
 pub returns-then-middle-from-clause-value : goal.returns-then-middle-from-clause-value
 returns-then-middle-from-clause-value g t c =
@@ -93,12 +93,10 @@ returns-then-middle-from-clause-value g t c =
     let m = row c.args.words.now in
     let test = c.is_leaf.ensures in
     let mid = c.left_sum-middle.ensures in
-    let y = node_of c.requires.rope test.value c.if-is_leaf.false in
-    let is = sum_of test.same mid.value y.children in
-    let same : row c.left_sum-middle.new.words ≡ m = mid.same ∙ test.same in
+    let o = opened c.requires.rope test.value c.if-is_leaf.false test.same mid.value mid.same in
     let q = c.right-q.ensures in
-    let read : RightRead m c.args.p.0 c.right-q.result.0 = rw same at q.lent in
-    rw (q.same ∙ same) at c.read_part-then-middle-from.ensures.value ∙ range_right y is c.args.from (length c.args.into.now) read c.if-middle-from.true
+    let read : RightRead m c.args.p.0 c.right-q.result.0 = rw o.same at q.lent in
+    rw (q.same ∙ o.same) at c.read_part-then-middle-from.ensures.value ∙ range_right o.node o.is c.args.from (length c.args.into.now) read c.if-middle-from.true
 
 pub returns-then-middle-from-clause-touches : goal.returns-then-middle-from-clause-touches
 returns-then-middle-from-clause-touches g t c = λ x.
@@ -106,14 +104,12 @@ returns-then-middle-from-clause-touches g t c = λ x.
     let m = row c.args.words.now in
     let test = c.is_leaf.ensures in
     let mid = c.left_sum-middle.ensures in
-    let y = node_of x test.value c.if-is_leaf.false in
-    let is = sum_of test.same mid.value y.children in
-    let b = middle_bounds y is in
-    let same : row c.left_sum-middle.new.words ≡ m = mid.same ∙ test.same in
+    let o = opened x test.value c.if-is_leaf.false test.same mid.value mid.same in
+    let b = middle_bounds o.node o.is in
     let q = c.right-q.ensures in
-    let read : RightRead m c.args.p.0 c.right-q.result.0 = rw same at q.lent in
-    let down = (rw (q.same ∙ same) at c.read_part-then-middle-from.ensures.touches) (right_sized y is read) in
-    omega (arith, test.touches, mid.touches, q.touches, down, price_right _ c.args.size _ c.args.from (length c.args.into.now) b.0 b.1 _ (right_low y is) c.if-middle-from.true c.requires.inside)
+    let read : RightRead m c.args.p.0 c.right-q.result.0 = rw o.same at q.lent in
+    let down = (rw (q.same ∙ o.same) at c.read_part-then-middle-from.ensures.touches) (right_sized o.node o.is read) in
+    omega (arith, test.touches, mid.touches, q.touches, down, price_right _ c.args.size _ c.args.from (length c.args.into.now) b.0 b.1 _ (right_low o.node o.is) c.if-middle-from.true c.requires.inside)
 
 pub read_part-requires-2 : goal.read_part-requires-2
 read_part-requires-2 g t c κs within =
@@ -121,13 +117,11 @@ read_part-requires-2 g t c κs within =
     let m = row c.args.words.now in
     let test = c.is_leaf.ensures in
     let mid = c.left_sum-middle.ensures in
-    let y = node_of c.requires.rope test.value c.if-is_leaf.false in
-    let is = sum_of test.same mid.value y.children in
-    let b = middle_bounds y is in
-    let same : row c.left_sum-middle.new.words ≡ m = mid.same ∙ test.same in
+    let o = opened c.requires.rope test.value c.if-is_leaf.false test.same mid.value mid.same in
+    let b = middle_bounds o.node o.is in
     let q = c.left-l.ensures in
-    let read : LeftRead m c.args.p.0 c.left-l.result.0 = rw same at q.lent in
-    (omega (arith, b, c.decreases), (within, (rw (q.same ∙ same) (left_sized y is read), omega (arith, c.split_at_mut-front.ensures.front_len, c.if-middle-from.false))))
+    let read : LeftRead m c.args.p.0 c.left-l.result.0 = rw o.same at q.lent in
+    (omega (arith, b, c.decreases), (within, (rw (q.same ∙ o.same) (left_sized o.node o.is read), omega (arith, c.split_at_mut-front.ensures.front_len, c.if-middle-from.false))))
 
 pub read_part-requires-3 : goal.read_part-requires-3
 read_part-requires-3 g t c κs within =
@@ -135,14 +129,12 @@ read_part-requires-3 g t c κs within =
     let m = row c.args.words.now in
     let test = c.is_leaf.ensures in
     let mid = c.left_sum-middle.ensures in
-    let y = node_of c.requires.rope test.value c.if-is_leaf.false in
-    let is = sum_of test.same mid.value y.children in
-    let b = middle_bounds y is in
-    let same : row c.left_sum-middle.new.words ≡ m = mid.same ∙ test.same in
+    let o = opened c.requires.rope test.value c.if-is_leaf.false test.same mid.value mid.same in
+    let b = middle_bounds o.node o.is in
     let q = c.right-r.ensures in
-    let last : row c.read_part-2.new.words ≡ m = c.read_part-2.ensures.same ∙ (c.left-l.ensures.same ∙ same) in
+    let last : row c.read_part-2.new.words ≡ m = c.read_part-2.ensures.same ∙ (c.left-l.ensures.same ∙ o.same) in
     let read : RightRead m c.args.p.0 c.right-r.result.0 = rw last at q.lent in
-    (omega (arith, b, c.decreases), (within, (rw (q.same ∙ last) (right_sized y is read), omega (arith, c.split_at_mut-front.ensures.back_len, c.if-middle-from.false, c.requires.inside, b.2))))
+    (omega (arith, b, c.decreases), (within, (rw (q.same ∙ last) (right_sized o.node o.is read), omega (arith, c.split_at_mut-front.ensures.back_len, c.if-middle-from.false, c.requires.inside, b.2))))
 
 pub returns-clause-value : goal.returns-clause-value
 returns-clause-value g t c =
@@ -150,23 +142,21 @@ returns-clause-value g t c =
     let m = row c.args.words.now in
     let test = c.is_leaf.ensures in
     let mid = c.left_sum-middle.ensures in
-    let y = node_of c.requires.rope test.value c.if-is_leaf.false in
-    let is = sum_of test.same mid.value y.children in
-    let same : row c.left_sum-middle.new.words ≡ m = mid.same ∙ test.same in
+    let o = opened c.requires.rope test.value c.if-is_leaf.false test.same mid.value mid.same in
     let cut = c.split_at_mut-front in
     let from = c.args.from in
     let k = length c.args.into.now in
     let front = c.left-l.ensures in
     let back = c.right-r.ensures in
-    let last : row c.read_part-2.new.words ≡ m = c.read_part-2.ensures.same ∙ (front.same ∙ same) in
-    let left_read : LeftRead m c.args.p.0 c.left-l.result.0 = rw same at front.lent in
+    let last : row c.read_part-2.new.words ≡ m = c.read_part-2.ensures.same ∙ (front.same ∙ o.same) in
+    let left_read : LeftRead m c.args.p.0 c.left-l.result.0 = rw o.same at front.lent in
     let right_read : RightRead m c.args.p.0 c.right-r.result.0 = rw last at back.lent in
     let long : length cut.result.1.now ≡ from + k - c.left_sum-middle.result = omega (arith, cut.ensures.back_len, c.if-from-into.false, c.if-middle-from.false) in
-    let first : c.read_part-2.new.into ≡ take (c.left_sum-middle.result - from) (drop from (text m c.left-l.result.0)) = (rw (front.same ∙ same) at c.read_part-2.ensures.value) ∙ ap (λ z. take z (drop from (text m c.left-l.result.0))) cut.ensures.front_len in
+    let first : c.read_part-2.new.into ≡ take (c.left_sum-middle.result - from) (drop from (text m c.left-l.result.0)) = (rw (front.same ∙ o.same) at c.read_part-2.ensures.value) ∙ ap (λ z. take z (drop from (text m c.left-l.result.0))) cut.ensures.front_len in
     let second : c.read_part-3.new.into ≡ take (from + k - c.left_sum-middle.result) (drop 0 (text m c.right-r.result.0)) = (rw (back.same ∙ last) at c.read_part-3.ensures.value) ∙ ap (λ z. take z (drop 0 (text m c.right-r.result.0))) long in
     ap (λ v. v ++ c.read_part-3.new.into) first
     ∙ (ap (λ v. take (c.left_sum-middle.result - from) (drop from (text m c.left-l.result.0)) ++ v) second
-    ∙ range_both y is from k left_read right_read (omega (arith, c.if-middle-from.false)) (omega (arith, c.if-from-into.false)))
+    ∙ range_both o.node o.is from k left_read right_read (omega (arith, c.if-middle-from.false)) (omega (arith, c.if-from-into.false)))
 
 pub returns-clause-touches : goal.returns-clause-touches
 returns-clause-touches g t c = λ x.
@@ -174,22 +164,20 @@ returns-clause-touches g t c = λ x.
     let m = row c.args.words.now in
     let test = c.is_leaf.ensures in
     let mid = c.left_sum-middle.ensures in
-    let y = node_of x test.value c.if-is_leaf.false in
-    let is = sum_of test.same mid.value y.children in
-    let b = middle_bounds y is in
-    let same : row c.left_sum-middle.new.words ≡ m = mid.same ∙ test.same in
+    let o = opened x test.value c.if-is_leaf.false test.same mid.value mid.same in
+    let b = middle_bounds o.node o.is in
     let cut = c.split_at_mut-front.ensures in
     let from = c.args.from in
     let k = length c.args.into.now in
     let front = c.left-l.ensures in
     let back = c.right-r.ensures in
-    let last : row c.read_part-2.new.words ≡ m = c.read_part-2.ensures.same ∙ (front.same ∙ same) in
-    let left_read : LeftRead m c.args.p.0 c.left-l.result.0 = rw same at front.lent in
+    let last : row c.read_part-2.new.words ≡ m = c.read_part-2.ensures.same ∙ (front.same ∙ o.same) in
+    let left_read : LeftRead m c.args.p.0 c.left-l.result.0 = rw o.same at front.lent in
     let right_read : RightRead m c.args.p.0 c.right-r.result.0 = rw last at back.lent in
     let long : length c.split_at_mut-front.result.1.now ≡ from + k - c.left_sum-middle.result = omega (arith, cut.back_len, c.if-from-into.false, c.if-middle-from.false) in
-    let first = (rw (front.same ∙ same) at c.read_part-2.ensures.touches) (left_sized y is left_read) in
-    let second = (rw (back.same ∙ last) at c.read_part-3.ensures.touches) (right_sized y is right_read) in
-    let cost_front = ap (price (height y.children.left) c.left_sum-middle.result from) cut.front_len in
-    let cost_back = ap (price (height y.children.right) (c.args.size - c.left_sum-middle.result) 0) long in
-    let cost = price_both _ c.args.size _ from k b.0 b.1 _ _ (left_low y is) (right_low y is) (omega (arith, c.if-middle-from.false)) (omega (arith, c.if-from-into.false)) c.requires.inside in
+    let first = (rw (front.same ∙ o.same) at c.read_part-2.ensures.touches) (left_sized o.node o.is left_read) in
+    let second = (rw (back.same ∙ last) at c.read_part-3.ensures.touches) (right_sized o.node o.is right_read) in
+    let cost_front = ap (price (height o.node.children.left) c.left_sum-middle.result from) cut.front_len in
+    let cost_back = ap (price (height o.node.children.right) (c.args.size - c.left_sum-middle.result) 0) long in
+    let cost = price_both _ c.args.size _ from k b.0 b.1 _ _ (left_low o.node o.is) (right_low o.node o.is) (omega (arith, c.if-middle-from.false)) (omega (arith, c.if-from-into.false)) c.requires.inside in
     omega (arith, test.touches, mid.touches, front.touches, first, back.touches, second, cost, cost_front, cost_back)
