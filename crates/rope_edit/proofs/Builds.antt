@@ -33,8 +33,8 @@ some_bytes (node_of l r) h = omega arith
 abbrev pub Runs : (m m' b : List ℕ) (d : Option Ref) (n n' : ℕ) → Type 0
 Runs m m' b d n n' = (x : Free m (length b)) → After m m' d (from_bytes b) x.rest (cells (from_bytes b) + all_nodes x.rest) n' (n + (68 * ((length b + 47) / 48) - 37))
 
-pub builds : (m m' b : List ℕ) (d : Option Ref) (n n' : ℕ) → Octets b → length b < 536870912 → Runs m m' b d n n' → Builds m m' b d n n'
-builds m m' b d n n' o few runs = record { runs = runs; short = from_short b o few; text = bytes_from_bytes b }
+pub builds : {m m' b : List ℕ} {d : Option Ref} {n n' : ℕ} → Octets b → length b < 536870912 → Runs m m' b d n n' → Builds m m' b d n n'
+builds {b = b} o few runs = record { runs = runs; short = from_short b o few; text = bytes_from_bytes b }
 
 pub builds_none : (m b : List ℕ) (z : Ref) (n : ℕ) → z.0 ≡ 0 → length b ≡ 0 → Runs m m b (Some z) n n
 builds_none m b z n is_z none x =
@@ -45,11 +45,11 @@ builds_none m b z n is_z none x =
       cost = omega arith;
     }
 
-pub free_leaf : (m b : List ℕ) → Free m (length b) → Free m 0
-free_leaf m b x = record { rest = x.rest; have = x.have; few = omega (arith, x.few) }
+pub free_leaf : {m : List ℕ} {n : ℕ} → Free m n → Free m 0
+free_leaf x = record { rest = x.rest; have = x.have; few = omega (arith, x.few) }
 
-pub builds_leaf : (m m' b : List ℕ) (d : Option Ref) (n n' : ℕ) → 1 ≤ length b → length b ≤ 48 → Leafed m m' b d n n' → Runs m m' b d n n'
-builds_leaf m m' b d n n' some few made x =
+pub builds_leaf : {m m' b : List ℕ} {d : Option Ref} {n n' : ℕ} → 1 ≤ length b → length b ≤ 48 → Leafed m m' b d n n' → Runs m m' b d n n'
+builds_leaf {m' = m'} {b = b} {d = d} some few made x =
     let is = from_leaf b some few in
     let o = made.runs (record { rest = x.rest; have = x.have; few = omega (arith, x.few) }) in
     let one : fills (length b) ≡ 1 = omega arith in
@@ -59,40 +59,49 @@ builds_leaf m m' b d n n' some few made x =
       cost = omega (arith, o.cost, one);
     }
 
--- more bytes than a leaf has
-module _ (b f k : List ℕ) (share : ℕ) (more : 48 < length b) (few : length b < 536870912) (is : share ≡ left_share (length b)) (is_f : f ≡ take share b) (is_k : k ≡ drop share b) where
+-- more bytes than a leaf has, and both shares of them
+pub record Parted (b f k : List ℕ) : Type 0 where
+  pub more : 48 < length b
+  pub few : length b < 536870912
+  pub front : f ≡ take (left_share (length b)) b
+  pub back : k ≡ drop (left_share (length b)) b
+
+pub parted : {b f k : List ℕ} {share : ℕ} → 48 < length b → length b < 536870912 → share ≡ left_share (length b) → f ≡ take share b → k ≡ drop share b → Parted b f k
+parted {b} more few is front back = record { more = more; few = few; front = front ∙ ap (λ z. take z b) is; back = back ∙ ap (λ z. drop z b) is }
+
+module _ {b f k : List ℕ} (s : Parted b f k) where
   pub shares : (24 ≤ length f) × (24 ≤ length k) × (length f + length k ≡ length b) × (fills (length f) + fills (length k) ≡ fills (length b))
   shares =
       let n = length b in
-      let s = share_ok n more in
-      let lf : length f ≡ left_share n = omega (arith, ap length is_f, length-take share b, s.rest) in
-      let lk : length k ≡ n - left_share n = omega (arith, ap length is_k, length-drop share b) in
-      (omega (arith, s.some), omega (arith, s.rest), omega (arith, s.rest), omega (arith, s.left, s.right, ap fills lf, ap fills lk))
+      let o = share_ok n s.more in
+      let lf : length f ≡ left_share n = omega (arith, ap length s.front, length-take (left_share n) b, o.rest) in
+      let lk : length k ≡ n - left_share n = omega (arith, ap length s.back, length-drop (left_share n) b) in
+      (omega (arith, o.some), omega (arith, o.rest), omega (arith, o.rest), omega (arith, o.left, o.right, ap fills lf, ap fills lk))
 
   pub is_node : from_bytes b ≡ node_of (from_bytes f) (from_bytes k)
-  is_node = from_node b f k (is_f ∙ ap (λ z. take z b) is) (is_k ∙ ap (λ z. drop z b) is) more few
+  is_node = from_node b f k s.front s.back s.more s.few
 
-  abbrev pub free_front : (m : List ℕ) → Free m (length b) → Free m (length f)
-  free_front m x = record { rest = x.rest; have = x.have; few = omega (arith, x.few, shares.2) }
+  abbrev pub free_front : {m : List ℕ} → Free m (length b) → Free m (length f)
+  free_front x = record { rest = x.rest; have = x.have; few = omega (arith, x.few, shares.2) }
 
-  module _ (m m1 : List ℕ) (long1 : length m1 ≡ length m) (n n1 : ℕ) where
+  module _ {m m1 : List ℕ} (long1 : length m1 ≡ length m) {n n1 : ℕ} where
     pub builds_no_front : Builds m m1 f None n n1 → Runs m m1 b None n n1
     builds_no_front first x =
-        let o = first.runs (free_front m x) in
+        let o = first.runs (free_front x) in
         record { have = o.have; full = λ _. omega (arith, o.full refl, ap cells is_node); cost = omega (arith, o.cost, shares.3) }
 
-    module _ (p : Ref) (first : Builds m m1 f (Some p) n n1) where
+    module _ {p : Ref} (first : Builds m m1 f (Some p) n n1) where
       abbrev pub free_back : Free m (length b) → Free m1 (length k)
-      free_back x = record { rest = item p.0 (code (from_bytes f)) ∷ x.rest; have = (first.runs (free_front m x)).have; few = omega (arith, x.few, shares.0, shares.2) }
+      free_back x = record { rest = item p.0 (code (from_bytes f)) ∷ x.rest; have = (first.runs (free_front x)).have; few = omega (arith, x.few, shares.0, shares.2) }
 
-      module _ (m2 : List ℕ) (long2 : length m2 ≡ length m1) (n2 : ℕ) where
+      module _ {m2 : List ℕ} (long2 : length m2 ≡ length m1) {n2 : ℕ} where
         module _ (second : Builds m1 m2 k None n1 n2) where
           pub front_holding : Free m (length b) → Holding m2 p.0
           front_holding x = record { tree = code (from_bytes f); rest = x.rest; have = (second.runs (free_back x)).have }
 
-          pub builds_no_back : (m3 : List ℕ) (n3 : ℕ) → Released m2 m3 p.0 → n3 ≤ n2 + 5 → Runs m m3 b None n n3
-          builds_no_back m3 n3 gone drops x =
-              let o = first.runs (free_front m x) in
+          pub builds_no_back : {m3 : List ℕ} {n3 : ℕ} → Released m2 m3 p.0 → n3 ≤ n2 + 5 → Runs m m3 b None n n3
+          builds_no_back gone drops x =
+              let o = first.runs (free_front x) in
               let q = second.runs (free_back x) in
               record {
                 have = gone.have (code (from_bytes f)) x.rest q.have;
@@ -100,7 +109,7 @@ module _ (b f k : List ℕ) (share : ℕ) (more : 48 < length b) (few : length b
                 cost = omega (arith, o.cost, q.cost, shares.3, shares.0, shares.1);
               }
 
-        module _ (q : Ref) (second : Builds m1 m2 k (Some q) n1 n2) where
+        module _ {q : Ref} (second : Builds m1 m2 k (Some q) n1 n2) where
           abbrev pub both_two : Free m (length b) → Two Fit m2 p.0 q.0 0
           both_two x =
               record {
@@ -112,19 +121,19 @@ module _ (b f k : List ℕ) (share : ℕ) (more : 48 < length b) (few : length b
                   right = second.short.whole;
                   some_left = some_bytes (from_bytes f) (omega (arith, size_from f, shares.0));
                   some_right = some_bytes (from_bytes k) (omega (arith, size_from k, shares.1));
-                  few = omega (arith, size_from f, size_from k, shares.2);
+                  few = omega (arith, size_from f, size_from k, shares.2, s.few);
                 };
                 have = swap_have m2 _ _ _ (second.runs (free_back x)).have;
                 few = omega (arith, x.few);
               }
 
-          pub builds_node : (m3 : List ℕ) (d : Option Ref) (n3 : ℕ) → Joins Fit node_of (λ _ _. 37) 0 m2 m3 p.0 q.0 0 d n2 n3 → Runs m m3 b d n n3
-          builds_node m3 d n3 last x =
-              let o = first.runs (free_front m x) in
-              let s = second.runs (free_back x) in
-              let r = last.runs (both_two x) in
+          pub builds_node : {m3 : List ℕ} {d : Option Ref} {n3 : ℕ} → Joins Fit node_of (λ _ _. 37) 0 m2 m3 p.0 q.0 0 d n2 n3 → Runs m m3 b d n n3
+          builds_node {m3} {d} last x =
+              let o = first.runs (free_front x) in
+              let r = second.runs (free_back x) in
+              let j = last.runs (both_two x) in
               record {
-                have = subst (λ t. Have m3 (opt d (code t) x.rest)) (sym is_node) r.have;
-                full = λ e. omega (arith, r.full e, ap cells is_node);
-                cost = omega (arith, o.cost, s.cost, r.cost, shares.3, shares.0, shares.1);
+                have = subst (λ t. Have m3 (opt d (code t) x.rest)) (sym is_node) j.have;
+                full = λ e. omega (arith, j.full e, ap cells is_node);
+                cost = omega (arith, o.cost, r.cost, j.cost, shares.3, shares.0, shares.1);
               }

@@ -48,9 +48,9 @@ pending_few (Some l) u v = omega arith
 pub concat_price_few : (u v : Rope) → concat_price u v ≤ 52 * max (height u) (height v) + 237
 concat_price_few u v = omega (arith, concat_steps_few u v)
 
-pub pending_following : (m : List ℕ) (l : Option Ref) (r : ℕ) → Pending m l r → Following m l r
-pending_following m None r x = record { tree = code x.v; rest = x.rest; have = x.have }
-pending_following m (Some l) r x = record { u = x.u; v = x.v; rest = x.rest; fit = x.fit; have = x.have; few = x.few }
+pub pending_following : {m : List ℕ} (l : Option Ref) {r : ℕ} → Pending m l r → Following m l r
+pending_following None x = record { tree = code x.v; rest = x.rest; have = x.have }
+pending_following (Some l) x = record { u = x.u; v = x.v; rest = x.rest; fit = x.fit; have = x.have; few = x.few }
 
 pub pending_after : (m m' : List ℕ) (l : Option Ref) (r : ℕ) (d : Option Ref) (n n' : ℕ) → Follows m m' l r d n n'
     → (x : Pending m l r) → After m m' d (concat x.u x.v) x.rest x.most n' (n + pending_price l x.u x.v)

@@ -261,7 +261,7 @@ module _ {n : ℕ} (many : 2 ≤ n) {m : List ℕ} {l r : ℕ} where
             repeats_half = record { runs = half }
 
 -- from nothing on
-module _ (n : ℕ) (m : List ℕ) (p : ℕ) where
+module _ {n : ℕ} {m : List ℕ} {p : ℕ} where
   abbrev pub times_two : One (Times n) m p 200 → Two (Copied n) m 0 p 200
   times_two x =
       record {
@@ -273,7 +273,7 @@ module _ (n : ℕ) (m : List ℕ) (p : ℕ) where
         few = omega (arith, x.few);
       }
 
-  module _ (m1 : List ℕ) (d : Option Ref) (k k1 : ℕ) (all : Repeats n m m1 0 p d k k1) where
+  module _ {m1 : List ℕ} {d : Option Ref} {k k1 : ℕ} (all : Repeats n m m1 0 p d k k1) where
     pub repeated : Repeated n m m1 p d k k1
     repeated =
         record {
@@ -283,6 +283,6 @@ module _ (n : ℕ) (m : List ℕ) (p : ℕ) where
         }
 
 -- no rope is higher than 35, and 32 steps are enough for any number of the machine
-pub repeated_quick : (n : ℕ) (m : List ℕ) (p : ℕ) (m1 : List ℕ) (d : Option Ref) (k k1 : ℕ) → n < 2 ^ 32 → One (Times n) m p 200 → Repeated n m m1 p d k k1 → k1 ≤ k + 75000
-repeated_quick n m p m1 None k k1 fits x s = omega (arith, (s.runs x 32 fits).cost, short_low _ (s.short x 32 fits))
-repeated_quick n m p m1 (Some d) k k1 fits x s = omega (arith, (s.runs x 32 fits).cost, short_low _ (s.short x 32 fits))
+pub repeated_quick : {n : ℕ} {m : List ℕ} {p : ℕ} {m1 : List ℕ} (d : Option Ref) {k k1 : ℕ} → n < 2 ^ 32 → One (Times n) m p 200 → Repeated n m m1 p d k k1 → k1 ≤ k + 75000
+repeated_quick None fits x s = omega (arith, (s.runs x 32 fits).cost, short_low _ (s.short x 32 fits))
+repeated_quick (Some d) fits x s = omega (arith, (s.runs x 32 fits).cost, short_low _ (s.short x 32 fits))

@@ -63,20 +63,20 @@ module _ (t : Rope) (a b : ℕ) (new : Rope) (f : Any t new) where
   unfolding replace
   replace_short = concat_short (concat (front (front t b) a) new) (back t b) end_any
 
-module _ (a b : ℕ) (m : List ℕ) (p q : ℕ) where
+module _ (a b : ℕ) {m : List ℕ} {p q : ℕ} where
   abbrev pub replaces_one : Two Any m p q 200 → One Short m p 160
   replaces_one x =
       let s = any_left x.u x.v x.fit in
       record { t = x.u; rest = item q (code x.v) ∷ x.rest; fit = s; have = x.have; few = omega (arith, x.few, short_low x.u s) }
 
-  module _ (m1 : List ℕ) (long1 : length m1 ≡ length m) (n n1 : ℕ) where
+  module _ {m1 : List ℕ} (long1 : length m1 ≡ length m) {n n1 : ℕ} where
     -- the rope could not be cut
     module _ (cut : Splits b m m1 p None n n1) where
       pub replaces_holding : Two Any m p q 200 → Holding m1 q
       replaces_holding x = record { tree = code x.v; rest = x.rest; have = (cut.runs (replaces_one x)).have }
 
-      pub replaces_none : (m2 : List ℕ) (n2 : ℕ) → Released m1 m2 q → n2 ≤ n1 + 5 → Replaces a b m m2 p q None n n2
-      replaces_none m2 n2 gone drops =
+      pub replaces_none : {m2 : List ℕ} {n2 : ℕ} → Released m1 m2 q → n2 ≤ n1 + 5 → Replaces a b m m2 p q None n n2
+      replaces_none gone drops =
           record {
             runs = λ x.
                 let o = cut.runs (replaces_one x) in
@@ -89,7 +89,7 @@ module _ (a b : ℕ) (m : List ℕ) (p q : ℕ) where
             text = λ x. bytes_replace x.u a b x.v;
           }
 
-    module _ (c : Cut) (cut : Splits b m m1 p (Some c) n n1) where
+    module _ {c : Cut} (cut : Splits b m m1 p (Some c) n n1) where
       abbrev pub front_cut : Two Any m p q 200 → One Short m1 c.front.0 160
       front_cut x =
           let s = front_short x.u b (any_left x.u x.v x.fit) in
@@ -101,7 +101,7 @@ module _ (a b : ℕ) (m : List ℕ) (p q : ℕ) where
             few = omega (arith, x.few, short_low (front x.u b) s);
           }
 
-      module _ (m2 : List ℕ) (d2 : Option Ref) (n2 : ℕ) (keeps : Keeps front a m1 m2 c.front.0 d2 n1 n2) (long2 : length m2 ≡ length m1) where
+      module _ {m2 : List ℕ} {d2 : Option Ref} {n2 : ℕ} (keeps : Keeps front a m1 m2 c.front.0 d2 n1 n2) (long2 : length m2 ≡ length m1) where
         abbrev pub start_pending : Two Any m p q 200 → Pending m2 d2 q
         start_pending x =
             let o = keeps.runs (front_cut x) in
@@ -163,6 +163,6 @@ module _ (a b : ℕ) (m : List ℕ) (p q : ℕ) where
               }
 
 -- no rope is higher than 35
-pub replaces_quick : (a b : ℕ) (m m' : List ℕ) (p q : ℕ) (d : Option Ref) (n n' : ℕ) → Two Any m p q 200 → Replaces a b m m' p q d n n' → n' ≤ n + 30000
-replaces_quick a b m m' p q None n n' x s = omega (arith, (s.runs x).cost, short_low x.u (any_left _ _ x.fit), short_low x.v (any_right _ _ x.fit))
-replaces_quick a b m m' p q (Some d) n n' x s = omega (arith, (s.runs x).cost, short_low x.u (any_left _ _ x.fit), short_low x.v (any_right _ _ x.fit))
+pub replaces_quick : {a b : ℕ} {m m' : List ℕ} {p q : ℕ} (d : Option Ref) {n n' : ℕ} → Two Any m p q 200 → Replaces a b m m' p q d n n' → n' ≤ n + 30000
+replaces_quick None x s = omega (arith, (s.runs x).cost, short_low x.u (any_left _ _ x.fit), short_low x.v (any_right _ _ x.fit))
+replaces_quick (Some d) x s = omega (arith, (s.runs x).cost, short_low x.u (any_left _ _ x.fit), short_low x.v (any_right _ _ x.fit))
