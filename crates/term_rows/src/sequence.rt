@@ -57,7 +57,7 @@ pub fn move_cursor<W: ByteWriter>(writer: &mut W, at: Position, to: Position)
     ensures long { length (W.written writer.new) ≤ length (W.written writer.old) + 12 }
     ensures same { W.lent writer.new ≡ W.lent writer.old }
 {
-    if at.row != to.row || at.column != to.column {
+    if at != to {
         write_move(writer, to);
     }
 }

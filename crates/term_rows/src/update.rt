@@ -1,11 +1,13 @@
 //! Which cells of a row are sent, and whether the rest is cleared: whatever takes fewer bytes.
-ghost use Rattle.std.specs.Prelude.{◌≡◌, ℕ, ◌+◌, ◌-◌, ◌<◌, ◌≤◌, length, take, drop, replicate, MatchOption, ◌≢◌, slice_index};
+ghost use Rattle.std.specs.Prelude.{◌≡◌, ℕ, ◌+◌, ◌-◌, ◌^◌, ◌<◌, ◌≤◌, length, MatchBool, MatchOption, ◌≢◌, slice_index};
 ghost use Rattle.spec.specs.Screen.{blank};
+ghost use Rattle.term_rows.specs.Cells.{SameCells, BlankCells};
 ghost use Rattle.term_rows.specs.Shortest.{Shortest, ShortestWhole};
 
 const CLEAR_LENGTH: usize = 3;
 
 /// The cells from `from` to `to` are written, and then the rest of the row is cleared or left.
+// Kept: `clear` is a yes or no, which the theorems on updates take as a Bool; each clause would have to turn an enum of two into one.
 #[derive(Clone, Copy)]
 pub struct Update {
     pub from: usize,
@@ -13,57 +15,43 @@ pub struct Update {
     pub clear: bool,
 }
 
-/// Where two rows first differ, or their width.
-fn first_difference(old: &[u8], new: &[u8]) -> usize
+/// Where two rows first differ.
+fn first_difference(old: &[u8], new: &[u8]) -> Option<usize>
+    requires { length old.now ≡ length new.now }
+    ensures { MatchOption result (SameCells old.now new.now 0 (length old.now)) (λ i. (i < length old.now) × SameCells old.now new.now 0 i × (slice_index old.now i ≢ slice_index new.now i)) }
+{
+    old.iter().zip(new).position(|(a, b)| a != b)
+}
+
+/// From where on two rows are the same.
+fn same_from(old: &[u8], new: &[u8]) -> usize
     requires { length old.now ≡ length new.now }
     ensures within { result ≤ length old.now }
-    ensures same { take result old.now ≡ take result new.now }
-    ensures differs { result < length old.now → slice_index old.now result ≢ slice_index new.now result }
+    ensures same { SameCells old.now new.now result (length old.now) }
+    ensures differs { 0 < result → slice_index old.now (result - 1) ≢ slice_index new.now (result - 1) }
 {
-    for i in 0..old.len() {
-        if old[i] != new[i] {
-            return i;
-        }
-    }
-    old.len()
+    let ends = old.iter().rev().zip(new.iter().rev());
+    old.len() - ends.take_while(|(a, b)| a == b).count()
 }
 
-/// One past where two rows last differ, which they do at `from`.
-fn past_last_difference(old: &[u8], new: &[u8], from: usize) -> usize
-    requires same_width { length old.now ≡ length new.now }
-    requires within { from < length old.now }
-    requires differs { slice_index old.now from ≢ slice_index new.now from }
-    ensures above { from < result }
-    ensures within { result ≤ length old.now }
-    ensures same { drop result old.now ≡ drop result new.now }
-    ensures least { (k : ℕ) → drop k old.now ≡ drop k new.now → result ≤ k }
-{
-    let mut end = old.len();
-    while end > from + 1 {
-        if old[end - 1] != new[end - 1] {
-            return end;
-        }
-        end -= 1;
-    }
-    end
-}
-
-/// From where on, at or behind `from`, a row has only blanks.
-fn blank_from(row: &[u8], from: usize) -> usize
-    requires { from ≤ length row.now }
-    ensures above { from ≤ result }
+/// From where on a row has only blanks.
+fn blank_from(row: &[u8]) -> usize
     ensures within { result ≤ length row.now }
-    ensures blanks { drop result row.now ≡ replicate (length row.now - result) blank }
-    ensures least { (k : ℕ) → from ≤ k → drop k row.now ≡ replicate (length row.now - k) blank → result ≤ k }
+    ensures blanks { BlankCells row.now result }
+    ensures inked { 0 < result → slice_index row.now (result - 1) ≢ blank }
 {
-    let mut end = row.len();
-    while end > from {
-        if row[end - 1] != b' ' {
-            return end;
-        }
-        end -= 1;
-    }
-    end
+    row.len() - row.iter().rev().take_while(|b| **b == b' ').count()
+}
+
+/// The cells from `from` to `run_end`, or those to `clear_end` and a clear, if that is shorter.
+fn shorter(from: usize, run_end: usize, clear_end: usize) -> Update
+    requires { clear_end + 3 < 2 ^ 64 }
+    ensures from { result.from ≡ from }
+    ensures shorter { MatchBool result.clear ((result.to ≡ clear_end) × (clear_end + 3 < run_end)) ((result.to ≡ run_end) × (run_end ≤ clear_end + 3)) }
+{
+    let clear = clear_end + CLEAR_LENGTH < run_end;
+    let to = if clear { clear_end } else { run_end };
+    Update { from, to, clear }
 }
 
 /// What turns `old` into `new`; None if they are the same.
@@ -71,25 +59,9 @@ pub fn shortest_update(old: &[u8], new: &[u8]) -> Option<Update>
     requires { length old.now ≡ length new.now }
     ensures { MatchOption result (old.now ≡ new.now) (λ u. Shortest old.now new.now u.from u.to u.clear) }
 {
-    let from = first_difference(old, new);
-    if from == old.len() {
-        return None;
-    }
-    let run_end = past_last_difference(old, new, from);
-    let clear_end = blank_from(new, from);
-    if clear_end + CLEAR_LENGTH < run_end {
-        Some(Update {
-            from,
-            to: clear_end,
-            clear: true,
-        })
-    } else {
-        Some(Update {
-            from,
-            to: run_end,
-            clear: false,
-        })
-    }
+    let from = first_difference(old, new)?;
+    let clear_end = blank_from(new).max(from);
+    Some(shorter(from, same_from(old, new), clear_end))
 }
 
 /// What turns any row into `new`.
@@ -98,18 +70,5 @@ pub fn whole_row(new: &[u8]) -> Update
     ensures from { result.from ≡ 0 }
     ensures whole { ShortestWhole new.now result.to result.clear }
 {
-    let blanks = blank_from(new, 0);
-    if blanks + CLEAR_LENGTH < new.len() {
-        Update {
-            from: 0,
-            to: blanks,
-            clear: true,
-        }
-    } else {
-        Update {
-            from: 0,
-            to: new.len(),
-            clear: false,
-        }
-    }
+    shorter(0, new.len(), blank_from(new))
 }
