@@ -29,9 +29,6 @@ paint_more first mid last rows columns i a b clear after new r c r' c' d h n z u
 pub each_more : (i rows x y z k k' : ℕ) → i < rows → k' ≡ k → y ≤ x + i * k → z ≤ y + k' → z ≤ x + (i + 1) * k
 each_more i rows x y z k k' h e a b = omega (arith, (row_by_row i rows k h).0)
 
-pub room_left : (i rows x y k n : ℕ) → i < rows → y ≤ x + i * k → x + rows * k ≤ n → y + k ≤ n
-room_left i rows x y k n h a b = omega (arith, (row_by_row i rows k h).1)
-
 -- the same of an equal height
 pub paint_says : (first last : List ℕ) (rows rows' columns : ℕ) (after : Picture) (to : Position) → rows ≡ rows' → PaintSays first last rows columns after to → PaintSays first last rows' columns after to
 paint_says first last rows rows' columns after to e h = subst (λ (n : ℕ). PaintSays first last n columns after to) e h

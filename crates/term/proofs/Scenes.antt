@@ -20,9 +20,6 @@ after_row s i = get_or s.after.rows i []
 abbrev pub height : Scene → ℕ
 height s = length s.before.rows
 
-pub before_width : (columns i : ℕ) (s : Scene) → Redrawable columns s → i < height s → length (before_row s i) ≡ columns
-before_width columns i s d h = row_width (height s) columns i s.before.rows d.before h
-
 pub after_height : (columns : ℕ) (s : Scene) → Redrawable columns s → length s.after.rows ≡ height s
 after_height columns s d = d.after.rectangle.height
 

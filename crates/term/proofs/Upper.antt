@@ -13,9 +13,6 @@ use Rattle.term.proofs.Scenes.{before_row, after_row, height}
 pub row_says : (first last : List ℕ) (capacity columns columns' i : ℕ) (s s' : Scene) (at : Position) (r : Option Position) → columns ≡ columns' → s ≡ s' → RowSays first last capacity columns i s at r → RowSays first last capacity columns' i s' at r
 row_says first last capacity columns columns' i s s' at r a b h = subst (λ (x : Scene). RowSays first last capacity columns' i x at r) b (subst (λ (x : ℕ). RowSays first last capacity x i s at r) a h)
 
-pub still_redrawable : (columns columns' : ℕ) (s s' : Scene) → columns ≡ columns' → s ≡ s' → Redrawable columns s → Redrawable columns' s'
-still_redrawable columns columns' s s' a b d = subst (λ (x : Scene). Redrawable columns' x) b (subst (λ (x : ℕ). Redrawable x s) a d)
-
 module _ (columns bottom cursor : ℕ) (s : Scene) (d : Redrawable columns s) (h : bottom < height s) (first : List ℕ) (r c : ℕ) where
   -- what was written, with the rows above i done
   abbrev pub Upper : List ℕ → ℕ → ℕ → ℕ → Type 0

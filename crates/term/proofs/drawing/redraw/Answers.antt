@@ -6,8 +6,8 @@ use Rattle.term_rows.specs.Lent.{Lent}
 use Rattle.term.proofs.Sequels.{step_to}
 use Rattle.term.proofs.drawing.redraw.Goals as goal
 
-pub returns : goal.returns
-returns g c =
+pub returns-clause-says : goal.returns-clause-says
+returns-clause-says g c =
     let s : Scene = g.C.Change.scene c.args.change.now in
     let h = c.in_ok-at.ensures in
     let row : _ ≡ s.after.cursor_row = ap (λ (x : Scene). x.after.cursor_row) h.stays in
@@ -16,9 +16,4 @@ returns g c =
     drawn [] _ _ (length s.before.rows) (length c.args.old.now) s.before s.after c.in_ok-at.at.row c.in_ok-at.at.column c.requires.pictures.before c.requires.pictures.after h.says
     (step_to _ _ c.in_ok-at.at.row c.in_ok-at.at.column _ _ _ _ c.place_cursor.ensures.says row column)
     c.place_cursor.ensures.long in
-    record {
-      says = drawn_front _ c.place_cursor.new.writer.bytes.now c.place_cursor.new.writer.used _ _ _ _ _ (search rules) d c.count.ensures (ap (λ (x : Lent). x.capacity) (c.place_cursor.ensures.same ∙ h.same));
-      stays = h.stays;
-      still_ready = h.still_ready;
-      touches = h.touches;
-    }
+    drawn_front _ c.place_cursor.new.writer.bytes.now c.place_cursor.new.writer.used _ _ _ _ _ (search rules) d c.count.ensures (ap (λ (x : Lent). x.capacity) (c.place_cursor.ensures.same ∙ h.same))

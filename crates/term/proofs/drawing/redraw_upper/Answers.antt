@@ -1,37 +1,18 @@
-use Rattle.std.proofs.Common.{◌≡◌, ◌*◌, Some, None, sym, refl, ap, ◌∙◌, arith}
+use Rattle.std.proofs.Common.{◌≡◌, ◌*◌, Some, None, ap, ◌∙◌}
 use Rattle.term.specs.Scene.{Scene}
 use Rattle.term_rows.specs.Lent.{Lent}
-use Rattle.term.proofs.Scenes.{height}
-use Rattle.term.proofs.Upper.{row_says, still_redrawable, upper_row, upper_skip, upper_refused, touches_row, touches_skip, touches_refused}
+use Rattle.term.proofs.Upper.{row_says, upper_row, upper_skip, upper_refused, touches_row, touches_skip, touches_refused}
 use Rattle.term.proofs.drawing.redraw_upper.Goals as goal
 use Rattle.term.proofs.drawing.redraw_upper.Goals.{then-row-cursor_row+in_ok-at, else-row-cursor_row}
 
-pub loop-row-init : goal.loop-row-init
-loop-row-init g c = (λ start z. z, refl, c.requires.ready, omega arith, refl)
-
-pub redraw_row-requires : goal.redraw_row-requires
-redraw_row-requires g c =
-    let e : g.C.Change.scene c.loop-row.change ≡ g.C.Change.scene c.args.change.now = c.loop-row.invariant.1 in
-    record {
-      ready = c.loop-row.invariant.2;
-      pictures = still_redrawable _ _ _ _ (sym c.loop-row.auto.old) (sym e) c.requires.pictures;
-      buffers = omega (arith, c.loop-row.auto.old, c.loop-row.auto.new, c.requires.buffers);
-      within = omega (arith, ap height e, c.requires.within);
-    }
-
-pub returns-in_err-at : goal.returns-in_err-at
-returns-in_err-at g c =
+pub returns-in_err-at-clause-says : goal.returns-in_err-at-clause-says
+returns-in_err-at-clause-says g c =
     let s : Scene = g.C.Change.scene c.args.change.now in
-    let e : g.C.Change.scene c.loop-row.change ≡ s = c.loop-row.invariant.1 in
-    let o = c.in_err-at.ensures in
-    let w = row_says _ (g.W.ByteWriter.written c.redraw_row.new.writer) _ _ _ c.loop-row.row _ s c.loop-row.at None c.loop-row.auto.old e o.says in
-    record {
-      says = rw c.from_residual.ensures (upper_refused _ _ _ s c.requires.pictures c.requires.within _ _ _ _ c.loop-row.row _ _ _ c.loop-row-test.true c.if-row-cursor_row.true c.loop-row.invariant.0 (rw (ap (λ (x : Lent). x.capacity) c.loop-row.invariant.4) at w));
-      stays = o.stays ∙ e;
-      still_ready = o.still_ready;
-      touches = touches_refused c.args.last c.args.cursor_row c.loop-row.row _ _ _ _ _ _ c.loop-row-test.true c.if-row-cursor_row.true (ap (λ (x : Scene). 2 * x.row_touches) e) c.loop-row.invariant.3 o.touches;
-      same = o.same ∙ c.loop-row.invariant.4;
-    }
+    let w = row_says _ (g.W.ByteWriter.written c.redraw_row.new.writer) _ _ _ c.loop-row.row _ s c.loop-row.at None c.loop-row.auto.old c.loop-row.invariant.1 c.in_err-at.ensures.says in
+    rw c.from_residual.ensures (upper_refused _ _ _ s c.requires.pictures c.requires.within _ _ _ _ c.loop-row.row _ _ _ c.loop-row-test.true c.if-row-cursor_row.true c.loop-row.invariant.0 (rw (ap (λ (x : Lent). x.capacity) c.loop-row.invariant.4) at w))
+
+pub returns-in_err-at-clause-touches : goal.returns-in_err-at-clause-touches
+returns-in_err-at-clause-touches g c = touches_refused c.args.last c.args.cursor_row c.loop-row.row _ _ _ _ _ _ c.loop-row-test.true c.if-row-cursor_row.true (ap (λ (x : Scene). 2 * x.row_touches) c.loop-row.invariant.1) c.loop-row.invariant.3 c.in_err-at.ensures.touches
 
 pub loop-row-preserved : goal.loop-row-preserved
 loop-row-preserved g c =
@@ -57,8 +38,3 @@ loop-row-preserved g c =
             c.loop-row.invariant.4,
           )
     ]
-
-pub returns : goal.returns
-returns g c =
-    let e : c.loop-row.row ≡ c.args.last = omega (arith, c.loop-row-test.false, c.loop-row.auto.row-end) in
-    record { says = rw e at c.loop-row.invariant.0; stays = c.loop-row.invariant.1; still_ready = c.loop-row.invariant.2; touches = rw e at c.loop-row.invariant.3; same = c.loop-row.invariant.4 }

@@ -7,8 +7,8 @@ use Rattle.term.proofs.Sequels.{step_to}
 use Rattle.term.proofs.Paints.{paint_says, long_says}
 use Rattle.term.proofs.painting.repaint.Goals as goal
 
-pub returns : goal.returns
-returns g c =
+pub returns-clause-says : goal.returns-clause-says
+returns-clause-says g c =
     let s : Scene = g.C.Change.scene c.args.change.now in
     let rows : ℕ = length s.before.rows in
     let columns : ℕ = length c.args.new.now in
@@ -21,9 +21,4 @@ returns g c =
     let long = long_says _ _ _ rows (16 + columns) e h.long in
     let d : Painted [] (take c.place_cursor.new.writer.used c.place_cursor.new.writer.bytes.now) rows columns s.after =
     painted [] _ _ rows columns s.after rows c.repaint_rows-at.result.row c.repaint_rows-at.result.column c.requires.picture (omega arith) sent (step_to _ _ c.repaint_rows-at.result.row c.repaint_rows-at.result.column _ _ _ _ c.place_cursor.ensures.says row column) in
-    record {
-      says = painted_front _ c.place_cursor.new.writer.bytes.now c.place_cursor.new.writer.used _ _ _ _ _ (search rules) d c.count.ensures (ap (λ (x : Lent). x.capacity) (c.place_cursor.ensures.same ∙ h.same ∙ c.begin_painting.ensures.same)) (omega (arith, c.count.ensures, c.place_cursor.ensures.long, long, c.begin_painting.ensures.long));
-      stays = h.stays;
-      still_ready = h.still_ready;
-      touches = long_says _ _ _ rows s.row_touches e h.touches;
-    }
+    painted_front _ c.place_cursor.new.writer.bytes.now c.place_cursor.new.writer.used _ _ _ _ _ (search rules) d c.count.ensures (ap (λ (x : Lent). x.capacity) (c.place_cursor.ensures.same ∙ h.same ∙ c.begin_painting.ensures.same)) (omega (arith, c.count.ensures, c.place_cursor.ensures.long, long, c.begin_painting.ensures.long))
