@@ -1,18 +1,19 @@
 -- Rows cut from cells.
-use Rattle.std.proofs.Common.{◌≡◌, ℕ, zero, suc, ◌+◌, ◌*◌, ◌<◌, ◌≤◌, true, leb, List, [], ◌∷◌, ◌++◌, length, get_or, take, drop, sym, refl, ap, ◌∙◌, subst, mul-le-mul_right, add-mul, one-mul, zero-mul, add-one, arith, length-drop}
-use Rattle.std.specs.List.{AllByRecursion}
+use Rattle.std.proofs.Common.{Option, Some, None, Result, IfOk, ◌≡◌, ℕ, zero, suc, ◌+◌, ◌*◌, ◌<◌, ◌≤◌, Bool, true, false, T, ◌&&◌, List, [], ◌∷◌, length, get_or, take, drop, sym, refl, ap, ◌∙◌, subst, mul-le-mul_right, add-mul, one-mul, zero-mul, add-one, arith, length-drop}
+use Rattle.std.specs.List.{AllByRecursion, list_all}
+use Rattle.std.specs.Option.{ok_or}
 use Rattle.std.proofs.lemmas.List.{drop-drop, length-take-le}
 use Rattle.std.proofs.ByRecursion.{All-get_or, All-take, All-drop}
-use Rattle.std.proofs.lemmas.Bool.{and_parts, and_from, le-leb}
+use Rattle.std.proofs.lemmas.Bool.{and_parts}
 use Rattle.spec.specs.Bytes.{is_printable}
 use Rattle.spec.specs.Screen.{Row, Picture}
 use Rattle.terminals.specs.Sequences.{Printable}
 use Rattle.terminals.specs.Drawing.{Rectangle, Drawable}
-use Rattle.terminals.specs.Painting.{RepaintDone}
+use Rattle.terminals.specs.Painting.{RepaintDone, RepaintSays}
 use Rattle.pictures.specs.Rows.{rows_of, picture_of, all_printable, Valid}
 
 -- one row and the rest
-row_and_rest : (n k : ℕ) → suc n * k ≡ k + n * k
+pub row_and_rest : (n k : ℕ) → suc n * k ≡ k + n * k
 row_and_rest n k = ap (λ (x : ℕ). x * k) (sym (add-one n)) ∙ add-mul n 1 k ∙ ap (λ (x : ℕ). n * k + x) (one-mul k) ∙ (omega arith)
 
 pub height_of : (n columns : ℕ) (cells : List ℕ) → length (rows_of n columns cells) ≡ n
@@ -48,12 +49,14 @@ pub printable_cells : (cells : List ℕ) → all_printable cells ≡ true → Pr
 printable_cells [] h = tt
 printable_cells (c ∷ cs) h = let p = and_parts (is_printable c) (all_printable cs) h in (p.0, printable_cells cs p.1)
 
-pub printable_push : (cells : List ℕ) (c : ℕ) → all_printable cells ≡ true → is_printable c ≡ true → all_printable (cells ++ (c ∷ [])) ≡ true
-printable_push [] c h k = and_from (is_printable c) true k refl
-printable_push (x ∷ cells) c h k = let p = and_parts (is_printable x) (all_printable cells) h in and_from (is_printable x) (all_printable (cells ++ (c ∷ []))) p.0 (printable_push cells c p.1 k)
+-- the library's test of a whole list
+pub printable_is : (cells : List ℕ) → list_all is_printable cells ≡ all_printable cells
+printable_is [] = refl
+printable_is (c ∷ cs) = ap (λ (b : Bool). is_printable c && b) (printable_is cs)
 
-pub printable_between : (c : ℕ) → 32 ≤ c → c ≤ 126 → is_printable c ≡ true
-printable_between c h k = and_from (leb 32 c) (leb c 126) (le-leb 32 c h) (le-leb c 126 k)
+pub true_is : (b : Bool) → T b → b ≡ true
+true_is true h = refl
+true_is false h = absurd h
 
 -- what copying a row asks for
 pub row_within : (rows columns : ℕ) (cells : List ℕ) (i : ℕ) → length cells ≡ rows * columns → i < length (rows_of rows columns cells) → (i + 1) * columns ≤ length cells
@@ -76,3 +79,7 @@ valid_measured rows columns n cells other r c e v = subst (λ (k : ℕ). Drawabl
 
 pub repaint_measured : (rows columns n : ℕ) (other : List ℕ) (after : Picture) (o : ℕ) (bs : List ℕ) (k : ℕ) → n ≡ columns → RepaintDone (length (rows_of rows columns other)) n after o bs k → RepaintDone rows columns after o bs k
 repaint_measured rows columns n other after o bs k e d = subst (λ (x : ℕ). RepaintDone x columns after o bs k) (height_of rows columns other) (subst (λ (x : ℕ). RepaintDone (length (rows_of rows columns other)) x after o bs k) e d)
+
+pub repaint_ok : {E : Type 0} (rows columns n : ℕ) (other : List ℕ) (after : Picture) (o : ℕ) (bs : List ℕ) (e : E) (r : Option ℕ) (q : Result ℕ E) → q ≡ ok_or r e → n ≡ columns → RepaintSays (length (rows_of rows columns other)) n after o bs r → IfOk q (λ k. RepaintDone rows columns after o bs k)
+repaint_ok rows columns n other after o bs e (Some k) q h w d = rw h (repaint_measured rows columns n other after o bs k w d)
+repaint_ok rows columns n other after o bs e None q h w d = rw h tt

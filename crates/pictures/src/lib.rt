@@ -4,6 +4,6 @@
 mod pair;
 mod shot;
 
-pub use pair::{draw, paint};
+pub use pair::{bound, draw, paint};
 pub use shot::{Fault, Size, Snapshot};
 pub use term::Position;

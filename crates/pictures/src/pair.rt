@@ -1,18 +1,53 @@
 //! Two pictures of one size, and what is sent for them.
-ghost use Rattle.std.specs.Prelude.{◌≡◌, ℕ, ◌+◌, ◌*◌, ◌<◌, ◌≤◌, List, [], length, take, drop, IfOk};
+ghost use Rattle.std.specs.Prelude.{◌≡◌, ℕ, ◌+◌, ◌*◌, ◌<◌, ◌≤◌, List, [], length, take, drop, IfOk, ⊤};
 ghost use Rattle.terminals.specs.Progress.{RedrawDone};
 ghost use Rattle.terminals.specs.Painting.{RepaintDone};
 ghost use Rattle.term.specs.Scene.{Scene};
-ghost use Rattle.pictures.specs.Rows.{picture_of, Valid};
+ghost use Rattle.pictures.specs.Shots.{shown, IsShown};
+ghost use Rattle.spec.specs.Promises.{rows_cost, cost};
 
 use crate::shot::{Fault, Size, Snapshot, valid};
 use term::{Change, Position, redraw, repaint};
 
+/// Two pictures of one size.
 #[derive(Drop)]
 struct Pair<'a> {
     size: Size,
     before: Snapshot<'a>,
     after: Snapshot<'a>,
+    ghost before_valid: { IsShown size before },
+    ghost after_valid: { IsShown size after },
+}
+
+impl<'a> Pair<'a> {
+    fn new(size: Size, before: Snapshot<'a>, after: Snapshot<'a>) -> Result<Pair<'a>, Fault>
+        ensures { IfOk result (λ p. (p.size ≡ size) × (p.before.cells.now ≡ before.entry.cells.now) × (p.before.cursor ≡ before.entry.cursor) × (p.after.cells.now ≡ after.entry.cells.now) × (p.after.cursor ≡ after.entry.cursor)) }
+    {
+        if !valid(size, before) || !valid(size, after) {
+            return Err(Fault::NoPicture);
+        }
+        Ok(Pair {
+            size,
+            before,
+            after,
+        })
+    }
+
+    /// How many rows differ.
+    fn differing_rows(&self) -> usize
+        ensures few { result ≤ self.now.size.rows }
+        ensures counted { result * (16 + self.now.size.columns) ≡ rows_cost self.now.size.columns (shown self.now.size self.now.before).rows (shown self.now.size self.now.after).rows }
+    {
+        let columns = self.size.columns as usize;
+        let rows = self.before.cells.chunks(columns);
+        let mut count = 0;
+        for (old, new) in rows.zip(self.after.cells.chunks(columns)) {
+            if old != new {
+                count += 1;
+            }
+        }
+        count
+    }
 }
 
 /// Row `row` of cells that stand in one piece.
@@ -26,11 +61,11 @@ fn copy_row(cells: &[u8], columns: u16, row: u16, into: &mut [u8])
 }
 
 impl Change for Pair<'_> {
-    ghost scene = { λ s. record { before = picture_of s.size.rows s.size.columns s.before.cells.now s.before.cursor.row s.before.cursor.column; after = picture_of s.size.rows s.size.columns s.after.cells.now s.after.cursor.row s.after.cursor.column; row_touches = 0; kept = [] } };
+    ghost scene = { λ s. record { before = shown s.size s.before; after = shown s.size s.after; row_touches = 0; kept = [] } };
 
     ghost touched = { λ _. 0 };
 
-    ghost ready = { λ s. Valid s.size.rows s.size.columns s.before.cells.now s.before.cursor.row s.before.cursor.column × Valid s.size.rows s.size.columns s.after.cells.now s.after.cursor.row s.after.cursor.column };
+    ghost ready = { λ _. ⊤ };
 
     fn rows(&self) -> u16 {
         self.size.rows
@@ -67,40 +102,31 @@ pub fn draw<'a>(
     new: &mut [u8],
     out: &mut [u8],
 ) -> Result<usize, Fault>
-    ensures { IfOk result (λ n. RedrawDone (picture_of size.rows size.columns before.entry.cells.now before.entry.cursor.row before.entry.cursor.column) (picture_of size.rows size.columns after.entry.cells.now after.entry.cursor.row after.entry.cursor.column) size.columns (length out.old) out.new n) }
+    ensures { IfOk result (λ n. RedrawDone (shown size before.entry) (shown size after.entry) size.columns (length out.old) out.new n) }
 {
     let columns = size.columns as usize;
+    let mut pair = Pair::new(size, before, after)?;
     if old.len() != columns || new.len() != columns {
         return Err(Fault::NoPicture);
     }
-    if !valid(size, before) || !valid(size, after) {
-        return Err(Fault::NoPicture);
-    }
-    let mut pair = Pair {
-        size,
-        before,
-        after,
-    };
-    match redraw(&mut pair, out, old, new) {
-        Some(n) => Ok(n),
-        None => Err(Fault::NoRoom),
-    }
+    redraw(&mut pair, out, old, new).ok_or(Fault::NoRoom)
 }
 
 /// What makes a terminal show a picture, at the front of `out`. `new` is room for a row.
 pub fn paint(size: Size, after: Snapshot, new: &mut [u8], out: &mut [u8]) -> Result<usize, Fault>
-    ensures { IfOk result (λ n. RepaintDone size.rows size.columns (picture_of size.rows size.columns after.entry.cells.now after.entry.cursor.row after.entry.cursor.column) (length out.old) out.new n) }
+    ensures { IfOk result (λ n. RepaintDone size.rows size.columns (shown size after.entry) (length out.old) out.new n) }
 {
-    if new.len() != size.columns as usize || !valid(size, after) {
+    let mut pair = Pair::new(size, after, after)?;
+    if new.len() != size.columns as usize {
         return Err(Fault::NoPicture);
     }
-    let mut pair = Pair {
-        size,
-        before: after,
-        after,
-    };
-    match repaint(&mut pair, out, new) {
-        Some(n) => Ok(n),
-        None => Err(Fault::NoRoom),
-    }
+    repaint(&mut pair, out, new).ok_or(Fault::NoRoom)
+}
+
+/// The most bytes that lead from one picture to another: 32 and, for each row that differs, 16 and the width.
+pub fn bound<'a>(size: Size, before: Snapshot<'a>, after: Snapshot<'a>) -> Result<usize, Fault>
+    ensures { IfOk result (λ n. n ≡ cost size.columns (shown size before.entry) (shown size after.entry)) }
+{
+    let pair = Pair::new(size, before, after)?;
+    Ok(32 + pair.differing_rows() * (16 + size.columns as usize))
 }

@@ -3,6 +3,7 @@ ghost use Rattle.std.specs.Prelude.{◌≡◌, ℕ, ◌+◌, ◌*◌, ◌<◌, �
 ghost use Rattle.pictures.specs.Rows.{all_printable, Valid};
 
 use term::Position;
+use thiserror::Error;
 
 #[derive(Clone, Copy)]
 pub struct Size {
@@ -18,37 +19,34 @@ pub struct Snapshot<'a> {
 }
 
 /// Why nothing was drawn.
-#[derive(Clone, Copy, Debug)]
+#[derive(Clone, Copy, Debug, PartialEq, Eq, Error)]
 pub enum Fault {
     /// The cells are not as many as the size says, or can't be shown, or the cursor is outside.
+    #[error("not a picture of the size")]
     NoPicture,
     /// The output lent is too small.
+    #[error("too little room for the output")]
     NoRoom,
 }
+
+/// The most rows and columns of which a terminal can be told.
+const LARGEST: u16 = 9999;
 
 /// Whether a terminal shows every byte as it is.
 fn printable(cells: &[u8]) -> bool
     ensures { T result → all_printable cells.now ≡ true }
 {
-    for c in cells {
-        if *c < b' ' || *c > b'~' {
-            return false;
-        }
-    }
-    true
+    cells.iter().all(|c| (b' '..=b'~').contains(c))
 }
 
 pub fn valid(size: Size, shot: Snapshot) -> bool
     ensures { T result → Valid size.rows size.columns shot.entry.cells.now shot.entry.cursor.row shot.entry.cursor.column }
 {
-    if size.rows > 9999 || size.columns > 9999 {
-        return false;
-    }
-    if shot.cells.len() != size.rows as usize * size.columns as usize {
-        return false;
-    }
-    if shot.cursor.row >= size.rows || shot.cursor.column >= size.columns {
-        return false;
-    }
-    printable(shot.cells)
+    let Size { rows, columns } = size;
+    rows <= LARGEST
+        && columns <= LARGEST
+        && shot.cells.len() == rows as usize * columns as usize
+        && shot.cursor.row < rows
+        && shot.cursor.column < columns
+        && printable(shot.cells)
 }

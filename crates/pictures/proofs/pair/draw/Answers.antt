@@ -1,14 +1,10 @@
-use Rattle.std.proofs.Common.{sym, ◌∙◌}
+use Rattle.std.proofs.Common.{sym, ap, ◌∙◌}
 use Rattle.pictures.proofs.Rows.{valid_measured}
+use Rattle.pictures.specs.declared.shot.Size.{Size}
 use Rattle.pictures.proofs.pair.draw.Goals as goal
 
-pub redraw-requires : goal.redraw-requires
-redraw-requires c =
-    let u = c.if-not-valid.ensures tt in
-    let v = c.if-not-valid-2.ensures tt in
-    let e = sym c.if-old-columns.false in
-    record {
-      ready = (u, v);
-      pictures = record { before = (valid_measured c.args.size.rows _ _ _ _ _ _ e u).rectangle; after = valid_measured c.args.size.rows _ _ _ _ _ _ e v };
-      buffers = c.if-new-columns.false ∙ e;
-    }
+pub redraw-requires-clause-pictures : goal.redraw-requires-clause-pictures
+redraw-requires-clause-pictures c =
+    let pair = c.in_ok-pair.pair in
+    let e = ap (λ (s : Size). s.columns) c.in_ok-pair.ensures.0 ∙ sym c.if-old-columns.false in
+    record { before = (valid_measured _ _ _ _ _ _ _ e pair.before_valid).rectangle; after = valid_measured _ _ _ _ _ _ _ e pair.after_valid }

@@ -1,11 +1,17 @@
-use Rattle.std.proofs.Common.{sym}
-use Rattle.pictures.proofs.Rows.{valid_measured, repaint_measured}
+use Rattle.std.proofs.Common.{sym, ap, ◌∙◌}
+use Rattle.pictures.proofs.Rows.{valid_measured, repaint_ok}
+use Rattle.pictures.specs.declared.shot.Size.{Size}
 use Rattle.pictures.proofs.pair.paint.Goals as goal
 
-pub repaint-requires : goal.repaint-requires
-repaint-requires c =
-    let v = c.if-not-valid.ensures tt in
-    record { ready = (v, v); picture = valid_measured c.args.size.rows _ _ _ _ _ _ (sym c.if-new-size.false) v }
+pub repaint-requires-clause-picture : goal.repaint-requires-clause-picture
+repaint-requires-clause-picture c =
+    let e = ap (λ (s : Size). s.columns) c.in_ok-pair.ensures.0 ∙ sym c.if-new-size.false in
+    valid_measured _ _ _ _ _ _ _ e c.in_ok-pair.pair.after_valid
 
-pub returns-in-Some : goal.returns-in-Some
-returns-in-Some c = repaint_measured c.args.size.rows c.args.size.columns _ c.args.after.cells.now _ _ _ _ c.if-new-size.false c.in-Some.ensures.says
+pub returns : goal.returns
+returns c =
+    let pair = c.in_ok-pair.pair in
+    let same = c.in_ok-pair.ensures in
+    let w = c.if-new-size.false ∙ sym (ap (λ (s : Size). s.columns) same.0) in
+    let d = repaint_ok pair.size.rows pair.size.columns _ pair.before.cells.now _ _ _ _ c.repaint.result c.ok_or.result c.ok_or.ensures.value w c.repaint.ensures.says in
+    rw (same.0, same.3, same.4) at d

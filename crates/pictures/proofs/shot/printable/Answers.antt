@@ -1,10 +1,9 @@
-use Rattle.std.proofs.Common.{get_or, take}
-use Rattle.std.proofs.lemmas.List.{take_more, take_all}
-use Rattle.pictures.proofs.Rows.{printable_push, printable_between}
+use Rattle.std.proofs.Common.{sym, ◌∙◌, rules, tests}
+use Rattle.std.proofs.lemmas.Iterator.{YieldsList-from_slice}
+use Rattle.std.proofs.lemmas.Iterator.Search.{all_from_yields_List}
+use Rattle.spec.specs.Bytes.{is_printable}
+use Rattle.pictures.proofs.Rows.{printable_is, true_is}
 use Rattle.pictures.proofs.shot.printable.Goals as goal
 
-pub loop-c-preserved : goal.loop-c-preserved
-loop-c-preserved c = rw (take_more c.args.cells.now c.loop-c.c-index 0 c.loop-c-test.true) (printable_push (take c.loop-c.c-index c.args.cells.now) (get_or c.args.cells.now c.loop-c.c-index 0) c.loop-c.invariant (printable_between (get_or c.args.cells.now c.loop-c.c-index 0) c.if-c-lt32.false c.if-c-gt126.false))
-
 pub returns : goal.returns
-returns c = λ _. rw (take_all c.loop-c.c-index c.args.cells.now c.loop-c-test.false) at c.loop-c.invariant
+returns c = λ h. sym (printable_is c.args.cells.now) ∙ sym (all_from_yields_List is_printable _ _ _ c.all.ensures.ran (YieldsList-from_slice c.args.cells.now cc) (λ x b q k. search (rules, tests))) ∙ true_is c.all.result h
