@@ -5,17 +5,13 @@ mod report;
 mod samples;
 mod view;
 
-fn run(rt: &HostRuntime) -> anyhow::Result<()> {
+fn main(rt: HostRuntime) -> anyhow::Result<()> {
     let text = view::text(rt.alloc(), 40)?;
     let wide = view::text(rt.alloc(), 80)?;
-    samples::letter_at_end(rt, &text)?;
-    samples::letter_inside(rt, &text)?;
-    samples::join(rt, &text)?;
-    samples::step(rt, &text)?;
-    samples::step_and_scroll(rt, &text)?;
-    samples::scroll_full_rows(rt, &wide)
-}
-
-fn main(rt: HostRuntime) -> anyhow::Result<()> {
-    run(&rt)
+    samples::letter_at_end(&rt, &text)?;
+    samples::letter_inside(&rt, &text)?;
+    samples::join(&rt, &text)?;
+    samples::step(&rt, &text)?;
+    samples::step_and_scroll(&rt, &text)?;
+    samples::scroll_full_rows(&rt, &wide)
 }

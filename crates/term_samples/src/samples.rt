@@ -1,66 +1,53 @@
 //! The changes.
 use crate::report::print_change;
-use crate::view::{Text, View};
-use anyhow::anyhow;
+use crate::view::{Mode, Text, View};
+use anyhow::Context;
 use pictures::Position;
+use std::alloc::{AllocError, Global};
+use std::iter::once;
 
 /// The text with another line in the place of one or two.
 fn with_line(
-    rt: &HostRuntime,
+    heap: Global,
     text: &Text,
     at: usize,
     taken: usize,
     line: &[u8],
-) -> anyhow::Result<Text> {
-    let heap = rt.alloc();
-    let mut lines = Vec::new(heap);
-    for (i, old) in text.iter().enumerate() {
-        if i == at {
-            lines.push(Vec::from_slice(heap, line)?)?;
-        }
-        if i < at || i >= at.saturating_add(taken) {
-            lines.push(Vec::from_slice(heap, old.as_slice())?)?;
-        }
-    }
-    Ok(lines)
+) -> Result<Text, AllocError> {
+    let above = text.iter().take(at);
+    let below = text.iter().skip(at.saturating_add(taken));
+    above
+        .map(|old| old.as_slice())
+        .chain(once(line))
+        .chain(below.map(|old| old.as_slice()))
+        .map(|line| -> Result<Vec<u8>, AllocError> { Vec::from_slice(heap, line) })
+        .try_collect(heap)
 }
 
 /// A line with a letter put in.
-fn with_letter(rt: &HostRuntime, line: &[u8], column: usize) -> anyhow::Result<Vec<u8>> {
-    let mut out = Vec::new(rt.alloc());
-    for (i, b) in line.iter().enumerate() {
-        if i == column {
-            out.push(b'Z')?;
-        }
-        out.push(*b)?;
-    }
-    if column >= line.len() {
-        out.push(b'Z')?;
-    }
+fn with_letter(heap: Global, line: &[u8], column: usize) -> Result<Vec<u8>, AllocError> {
+    let mut out = Vec::from_slice(heap, line)?;
+    out.insert(column.min(line.len()), b'Z')?;
     Ok(out)
 }
 
 fn letter(rt: &HostRuntime, name: &str, text: &Text, column: u16) -> anyhow::Result<()> {
-    let Some(line) = text.get(5) else {
-        return Err(anyhow!("no line"));
-    };
-    let line = with_letter(rt, line.as_slice(), column as usize)?;
-    let longer = with_line(rt, text, 5, 1, line.as_slice())?;
+    let line = text.get(5).context("no line")?;
+    let line = with_letter(rt.alloc(), line, column as usize)?;
+    let longer = with_line(rt.alloc(), text, 5, 1, &line)?;
     let before = View {
         text,
         top: 0,
         cursor: Position { row: 5, column },
-        mode: 'I',
+        mode: Mode::Insert,
     };
-    let next = column.saturating_add(1);
     let after = View {
         text: &longer,
-        top: 0,
         cursor: Position {
             row: 5,
-            column: next,
+            column: column.saturating_add(1),
         },
-        mode: 'I',
+        ..before
     };
     print_change(rt, name, &before, &after)
 }
@@ -74,27 +61,25 @@ pub fn letter_inside(rt: &HostRuntime, text: &Text) -> anyhow::Result<()> {
 }
 
 pub fn join(rt: &HostRuntime, text: &Text) -> anyhow::Result<()> {
-    let (Some(upper), Some(lower)) = (text.get(11), text.get(12)) else {
-        return Err(anyhow!("no line"));
-    };
-    let mut line = Vec::from_slice(rt.alloc(), upper.as_slice())?;
+    let upper = text.get(11).context("no line")?;
+    let lower = text.get(12).context("no line")?;
+    let mut line = Vec::from_slice(rt.alloc(), upper)?;
     line.push(b' ')?;
-    line.extend_from_slice(lower.as_slice())?;
-    let joined = with_line(rt, text, 11, 2, line.as_slice())?;
+    line.extend_from_slice(lower)?;
+    let joined = with_line(rt.alloc(), text, 11, 2, &line)?;
     let before = View {
         text,
         top: 0,
         cursor: Position { row: 11, column: 3 },
-        mode: 'N',
+        mode: Mode::Normal,
     };
     let after = View {
         text: &joined,
-        top: 0,
         cursor: Position {
             row: 11,
             column: 40,
         },
-        mode: 'N',
+        ..before
     };
     print_change(
         rt,
@@ -109,34 +94,26 @@ pub fn step(rt: &HostRuntime, text: &Text) -> anyhow::Result<()> {
         text,
         top: 0,
         cursor: Position { row: 5, column: 10 },
-        mode: 'N',
+        mode: Mode::Normal,
     };
     let after = View {
-        text,
-        top: 0,
         cursor: Position { row: 6, column: 10 },
-        mode: 'N',
+        ..before
     };
     print_change(rt, "a step down", &before, &after)
 }
 
 fn scroll(rt: &HostRuntime, name: &str, text: &Text) -> anyhow::Result<()> {
-    let cursor = Position {
-        row: 22,
-        column: 10,
-    };
     let before = View {
         text,
         top: 0,
-        cursor,
-        mode: 'N',
+        cursor: Position {
+            row: 22,
+            column: 10,
+        },
+        mode: Mode::Normal,
     };
-    let after = View {
-        text,
-        top: 1,
-        cursor,
-        mode: 'N',
-    };
+    let after = View { top: 1, ..before };
     print_change(rt, name, &before, &after)
 }
 
