@@ -22,18 +22,14 @@ fn play_screen(rt: &HostRuntime, dice: &mut Dice) -> anyhow::Result<usize> {
     Ok(sent)
 }
 
-fn run(rt: &HostRuntime) -> anyhow::Result<()> {
+fn main(rt: HostRuntime) -> anyhow::Result<()> {
     let mut dice = Dice::new();
     let mut sent = 0usize;
     for _ in 0..SCREENS {
-        sent = sent.saturating_add(play_screen(rt, &mut dice)?);
+        sent = sent.saturating_add(play_screen(&rt, &mut dice)?);
     }
     println!(rt;
         "{SCREENS} screens, {CHANGES} changes of each, {sent} bytes: all shown as expected"
     )?;
     Ok(())
-}
-
-fn main(rt: HostRuntime) -> anyhow::Result<()> {
-    run(&rt)
 }

@@ -19,40 +19,52 @@ fn cell(dice: &mut Dice) -> u8 {
 }
 
 pub fn random(heap: Global, dice: &mut Dice, size: Size) -> Result<Cells, AllocError> {
-    let mut bytes = Vec::new(heap);
-    for _ in 0..size.rows {
-        for _ in 0..size.columns {
-            bytes.push(cell(dice))?;
-        }
-    }
+    let count = usize::from(size.rows) * usize::from(size.columns);
+    let bytes = (0..count).map(|_| cell(dice)).collect(heap)?;
     Ok(Cells {
         bytes,
         cursor: place(dice, size),
     })
 }
 
-pub fn place(dice: &mut Dice, size: Size) -> Position {
-    let row = if size.rows > 0 {
-        dice.below(size.rows)
-    } else {
-        0
-    };
-    let column = if size.columns > 0 {
-        dice.below(size.columns)
-    } else {
-        0
-    };
+fn place(dice: &mut Dice, size: Size) -> Position {
+    let row = dice.below(size.rows.max(1));
+    let column = dice.below(size.columns.max(1));
     Position { row, column }
 }
 
-/// Nothing, a cell, a row's end made blank, a row, or every third cell of the screen.
-fn changed(dice: &mut Dice, kind: u16, at: Position, row: u16, column: u16, old: u8) -> u8 {
-    match kind {
-        1 if row == at.row && column == at.column => cell(dice),
-        2 if row == at.row && column >= at.column => b' ',
-        3 if row == at.row => cell(dice),
-        4 if dice.below(3) == 0 => cell(dice),
-        _ => old,
+/// What is written anew.
+#[derive(Clone, Copy)]
+enum Part {
+    Nothing,
+    Cell,
+    /// It is made blank.
+    RowEnd,
+    Row,
+    /// Every third cell of the screen.
+    Scattered,
+}
+
+impl Part {
+    fn random(dice: &mut Dice) -> Part {
+        match dice.below(5) {
+            1 => Part::Cell,
+            2 => Part::RowEnd,
+            3 => Part::Row,
+            4 => Part::Scattered,
+            _ => Part::Nothing,
+        }
+    }
+
+    /// The cell `here`, where the part begins at `at`.
+    fn changed(self, dice: &mut Dice, at: Position, here: Position, old: u8) -> u8 {
+        match self {
+            Part::Cell if here == at => cell(dice),
+            Part::RowEnd if here.row == at.row && here.column >= at.column => b' ',
+            Part::Row if here.row == at.row => cell(dice),
+            Part::Scattered if dice.below(3) == 0 => cell(dice),
+            _ => old,
+        }
     }
 }
 
@@ -65,17 +77,13 @@ impl Cells {
     }
 
     pub fn next(&self, heap: Global, dice: &mut Dice, size: Size) -> Result<Cells, AllocError> {
-        let kind = dice.below(5);
+        let part = Part::random(dice);
         let at = place(dice, size);
+        let columns = size.columns.max(1) as usize;
         let mut bytes = Vec::new(heap);
-        let mut row = 0u16;
-        let mut column = 0u16;
-        for old in self.bytes.iter() {
-            bytes.push(changed(dice, kind, at, row, column, *old))?;
-            column = column.saturating_add(1);
-            if column == size.columns {
-                column = 0;
-                row = row.saturating_add(1);
+        for (row, cells) in (0..size.rows).zip(self.bytes.chunks(columns)) {
+            for (column, old) in (0..size.columns).zip(cells) {
+                bytes.push(part.changed(dice, at, Position { row, column }, *old))?;
             }
         }
         let cursor = if dice.below(3) == 0 {

@@ -3,8 +3,8 @@ ghost use Rattle.std.specs.Prelude.{◌<◌};
 
 use crate::dice::Dice;
 use crate::picture::{Cells, random};
-use anyhow::anyhow;
-use pictures::{Size, draw, paint};
+use anyhow::{Context, ensure};
+use pictures::{Size, bound, draw, paint};
 use plain_terminal::Terminal;
 use std::alloc::Global;
 
@@ -18,19 +18,6 @@ pub struct Screen {
     shown: Cells,
 }
 
-/// No more bytes may be sent than 32 and, for each row that differs, 16 and the width.
-fn bound(columns: usize, before: &[u8], after: &[u8]) -> usize
-    requires { 0 < columns }
-{
-    let mut bytes = 32usize;
-    for (old, new) in before.chunks(columns).zip(after.chunks(columns)) {
-        if old != new {
-            bytes = bytes.saturating_add(columns.saturating_add(16));
-        }
-    }
-    bytes
-}
-
 impl Screen {
     /// A terminal in the middle of a sequence, with cells that it may not keep, made to show a random picture.
     pub fn painted(heap: Global, dice: &mut Dice) -> anyhow::Result<Screen> {
@@ -39,18 +26,14 @@ impl Screen {
             columns: dice.below(20) + 1,
         };
         let columns = size.columns as usize;
-        let Some(plain) = plain_lines::Size::new(size.rows as usize, columns) else {
-            return Err(anyhow!("no size"));
-        };
+        let plain = plain_lines::Size::new(size.rows as usize, columns).context("no size")?;
         let mut terminal = Terminal::new(heap, plain, b'#')?;
         terminal.feed(b"\x1b[2;2Hx\x1b[1")?;
         let shown = random(heap, dice, size)?;
         let mut new = vec![in heap; 0u8; columns]?;
         let mut out = vec![in heap; 0u8; ROOM]?;
-        let Ok(n) = paint(size, shown.shot(), &mut new, &mut out) else {
-            return Err(anyhow!("not painted"));
-        };
-        terminal.feed(out.get(0..n).unwrap_or(b""))?;
+        let n = paint(size, shown.shot(), &mut new, &mut out)?;
+        terminal.feed(&out[..n])?;
         let screen = Screen {
             size,
             terminal,
@@ -61,18 +44,16 @@ impl Screen {
     }
 
     fn compare(&self) -> anyhow::Result<()> {
-        let (row, column) = self.terminal.cursor();
-        if row != self.shown.cursor.row as usize || column != self.shown.cursor.column as usize {
-            return Err(anyhow!("the cursor is elsewhere"));
-        }
+        let cursor = self.shown.cursor;
+        let expected = (cursor.row as usize, cursor.column as usize);
+        ensure!(
+            self.terminal.cursor() == expected,
+            "the cursor is elsewhere"
+        );
         let columns = self.size.columns.max(1) as usize;
         for (row, expected) in self.shown.bytes.chunks(columns).enumerate() {
-            let Some(found) = self.terminal.row(row) else {
-                return Err(anyhow!("a row is missing"));
-            };
-            if found != expected {
-                return Err(anyhow!("a row differs"));
-            }
+            let found = self.terminal.row(row).context("a row is missing")?;
+            ensure!(found == expected, "a row differs");
         }
         Ok(())
     }
@@ -84,24 +65,17 @@ impl Screen {
         let mut old = vec![in heap; 0u8; columns]?;
         let mut new = vec![in heap; 0u8; columns]?;
         let mut out = vec![in heap; 0u8; ROOM]?;
-        let Ok(n) = draw(
+        let n = draw(
             self.size,
             self.shown.shot(),
             next.shot(),
             &mut old,
             &mut new,
             &mut out,
-        ) else {
-            return Err(anyhow!("not drawn"));
-        };
-        if n > bound(
-            columns.max(1),
-            self.shown.bytes.as_slice(),
-            next.bytes.as_slice(),
-        ) {
-            return Err(anyhow!("too many bytes"));
-        }
-        self.terminal.feed(out.get(0..n).unwrap_or(b""))?;
+        )?;
+        let most = bound(self.size, self.shown.shot(), next.shot())?;
+        ensure!(n <= most, "too many bytes");
+        self.terminal.feed(&out[..n])?;
         self.shown = next;
         self.compare()?;
         Ok(n)
