@@ -4,4 +4,6 @@
 #[cfg(test)]
 mod edges;
 #[cfg(test)]
+mod shots;
+#[cfg(test)]
 mod small;
