@@ -1,5 +1,5 @@
 -- Rows cut from cells.
-use Rattle.std.proofs.Common.{Option, Some, None, Result, IfOk, ◌≡◌, ℕ, zero, suc, ◌+◌, ◌*◌, ◌<◌, ◌≤◌, Bool, true, false, T, ◌&&◌, List, [], ◌∷◌, length, get_or, take, drop, sym, refl, ap, ◌∙◌, subst, mul-le-mul_right, add-mul, one-mul, zero-mul, add-one, arith, length-drop}
+use Rattle.std.proofs.Common.{Option, Some, None, Result, IfOk, ◌≡◌, ℕ, zero, suc, ◌+◌, ◌*◌, ◌<◌, ◌≤◌, Bool, true, ◌&&◌, List, [], ◌∷◌, length, get_or, take, drop, sym, refl, ap, ◌∙◌, subst, mul-le-mul_right, add-mul, one-mul, zero-mul, add-one, arith, length-drop}
 use Rattle.std.specs.List.{AllByRecursion, list_all}
 use Rattle.std.specs.Option.{ok_or}
 use Rattle.std.proofs.lemmas.List.{drop-drop, length-take-le}
@@ -53,10 +53,6 @@ printable_cells (c ∷ cs) h = let p = and_parts (is_printable c) (all_printable
 pub printable_is : (cells : List ℕ) → list_all is_printable cells ≡ all_printable cells
 printable_is [] = refl
 printable_is (c ∷ cs) = ap (λ (b : Bool). is_printable c && b) (printable_is cs)
-
-pub true_is : (b : Bool) → T b → b ≡ true
-true_is true h = refl
-true_is false h = absurd h
 
 -- what copying a row asks for
 pub row_within : (rows columns : ℕ) (cells : List ℕ) (i : ℕ) → length cells ≡ rows * columns → i < length (rows_of rows columns cells) → (i + 1) * columns ≤ length cells

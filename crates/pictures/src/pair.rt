@@ -1,5 +1,5 @@
 //! Two pictures of one size, and what is sent for them.
-ghost use Rattle.std.specs.Prelude.{◌≡◌, ℕ, ◌+◌, ◌*◌, ◌<◌, ◌≤◌, List, [], length, take, drop, IfOk, ⊤};
+ghost use Rattle.std.specs.Prelude.{◌≡◌, ℕ, ◌+◌, ◌*◌, ◌<◌, ◌≤◌, List, [], length, take, drop, ◌↔◌, IsOk, IfOk, ⊤};
 ghost use Rattle.terminals.specs.Progress.{RedrawDone};
 ghost use Rattle.terminals.specs.Painting.{RepaintDone};
 ghost use Rattle.term.specs.Scene.{Scene};
@@ -21,7 +21,8 @@ struct Pair<'a> {
 
 impl<'a> Pair<'a> {
     fn new(size: Size, before: Snapshot<'a>, after: Snapshot<'a>) -> Result<Pair<'a>, Fault>
-        ensures { IfOk result (λ p. (p.size ≡ size) × (p.before.cells.now ≡ before.entry.cells.now) × (p.before.cursor ≡ before.entry.cursor) × (p.after.cells.now ≡ after.entry.cells.now) × (p.after.cursor ≡ after.entry.cursor)) }
+        ensures shown { IsOk result ↔ (IsShown size before.entry × IsShown size after.entry) }
+        ensures holds { IfOk result (λ p. (p.size ≡ size) × (p.before.cells.now ≡ before.entry.cells.now) × (p.before.cursor ≡ before.entry.cursor) × (p.after.cells.now ≡ after.entry.cells.now) × (p.after.cursor ≡ after.entry.cursor)) }
     {
         if !valid(size, before) || !valid(size, after) {
             return Err(Fault::NoPicture);
@@ -125,7 +126,8 @@ pub fn paint(size: Size, after: Snapshot, new: &mut [u8], out: &mut [u8]) -> Res
 
 /// The most bytes that lead from one picture to another: 32 and, for each row that differs, 16 and the width.
 pub fn bound<'a>(size: Size, before: Snapshot<'a>, after: Snapshot<'a>) -> Result<usize, Fault>
-    ensures { IfOk result (λ n. n ≡ cost size.columns (shown size before.entry) (shown size after.entry)) }
+    ensures shown { IsOk result ↔ (IsShown size before.entry × IsShown size after.entry) }
+    ensures cost { IfOk result (λ n. n ≡ cost size.columns (shown size before.entry) (shown size after.entry)) }
 {
     let pair = Pair::new(size, before, after)?;
     Ok(32 + pair.differing_rows() * (16 + size.columns as usize))

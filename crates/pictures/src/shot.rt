@@ -1,5 +1,5 @@
 //! A picture as bytes, and whether it is one that can be drawn.
-ghost use Rattle.std.specs.Prelude.{◌≡◌, ℕ, ◌+◌, ◌*◌, ◌<◌, ◌≤◌, true, T, length};
+ghost use Rattle.std.specs.Prelude.{◌≡◌, ℕ, ◌+◌, ◌*◌, ◌<◌, ◌≤◌, ◌↔◌, T, length};
 ghost use Rattle.pictures.specs.Rows.{all_printable, Valid};
 
 use term::Position;
@@ -34,13 +34,13 @@ const LARGEST: u16 = 9999;
 
 /// Whether a terminal shows every byte as it is.
 fn printable(cells: &[u8]) -> bool
-    ensures { T result → all_printable cells.now ≡ true }
+    ensures { result ≡ all_printable cells.now }
 {
     cells.iter().all(|c| (b' '..=b'~').contains(c))
 }
 
 pub fn valid(size: Size, shot: Snapshot) -> bool
-    ensures { T result → Valid size.rows size.columns shot.entry.cells.now shot.entry.cursor.row shot.entry.cursor.column }
+    ensures { T result ↔ Valid size.rows size.columns shot.entry.cells.now shot.entry.cursor.row shot.entry.cursor.column }
 {
     let Size { rows, columns } = size;
     rows <= LARGEST

@@ -5,13 +5,13 @@ use Rattle.pictures.proofs.pair.paint.Goals as goal
 
 pub repaint-requires-clause-picture : goal.repaint-requires-clause-picture
 repaint-requires-clause-picture c =
-    let e = ap (λ (s : Size). s.columns) c.in_ok-pair.ensures.0 ∙ sym c.if-new-size.false in
+    let e = ap (λ (s : Size). s.columns) c.in_ok-pair.ensures.holds.0 ∙ sym c.if-new-size.false in
     valid_measured _ _ _ _ _ _ _ e c.in_ok-pair.pair.after_valid
 
 pub returns : goal.returns
 returns c =
     let pair = c.in_ok-pair.pair in
-    let same = c.in_ok-pair.ensures in
+    let same = c.in_ok-pair.ensures.holds in
     let w = c.if-new-size.false ∙ sym (ap (λ (s : Size). s.columns) same.0) in
     let d = repaint_ok pair.size.rows pair.size.columns _ pair.before.cells.now _ _ _ _ c.repaint.result c.ok_or.result c.ok_or.ensures.value w c.repaint.ensures.says in
     rw (same.0, same.3, same.4) at d
