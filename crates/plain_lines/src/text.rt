@@ -1,135 +1,140 @@
 //! A text as lines: where they begin and end, and where the cursor may stand.
-//! A place is a number of bytes before it; lines and columns are counted from 0.
-ghost use Rattle.std.specs.Prelude.{◌≡◌, ℕ, ◌+◌, ◌-◌, ◌<◌, ◌≤◌, length, IfSome, ◌≢◌, slice_index};
+//! Lines and columns are counted from 0.
+ghost use Rattle.std.specs.Prelude.{◌≡◌, ℕ, ◌==◌, ◌+◌, ◌-◌, ◌<◌, ◌≤◌, length, take, count_by, IfSome, MatchOption, ◌≢◌, slice_index};
 
-#[derive(Clone, Copy, PartialEq, Eq)]
-pub enum Sort {
-    Blank,
-    Word,
-    Other,
-}
-
-pub fn sort_of(byte: u8) -> Sort {
-    match byte {
-        b' ' | b'\t' | b'\n' => Sort::Blank,
-        b'a'..=b'z' | b'A'..=b'Z' | b'0'..=b'9' | b'_' | 128..=255 => Sort::Word,
-        _ => Sort::Other,
-    }
-}
-
-// Where the line of a place begins.
-pub fn line_start(text: &[u8], at: usize) -> usize
-    requires { at ≤ length text.now }
-    ensures within { result ≤ at }
-    ensures inside { (k : ℕ) → result ≤ k → k < at → slice_index text.now k ≢ 10 }
-    ensures before { 0 < result → slice_index text.now (result - 1) ≡ 10 }
+// How many bytes are before the first line end.
+fn line_length(bytes: &[u8]) -> usize
+    ensures within { result ≤ length bytes.now }
+    ensures inside { (k : ℕ) → k < result → slice_index bytes.now k ≢ 10 }
+    ensures ended { result < length bytes.now → slice_index bytes.now result ≡ 10 }
 {
-    for i in (0..at).rev() {
-        if text[i] == b'\n' {
-            return i + 1;
+    let first = bytes.iter().position(|byte| *byte == b'\n');
+    first.unwrap_or(bytes.len())
+}
+
+// A place of a text: the number of bytes before it.
+#[derive(Clone, Copy)]
+pub struct Place<'a> {
+    pub text: &'a [u8],
+    pub at: usize,
+    ghost within: { at ≤ length text.now },
+}
+
+impl<'a> Place<'a> {
+    // Another place of the same text.
+    pub fn to(self, at: usize) -> Place<'a>
+        requires { at ≤ length self.text.now }
+        ensures text { result.text.now ≡ self.entry.text.now }
+        ensures at { result.at ≡ at }
+    {
+        Place {
+            text: self.text,
+            at,
         }
     }
-    0
-}
 
-// The place of the line's end: of its byte 10, or the text's length.
-pub fn line_end(text: &[u8], at: usize) -> usize
-    requires { at ≤ length text.now }
-    ensures behind { at ≤ result }
-    ensures within { result ≤ length text.now }
-    ensures inside { (k : ℕ) → at ≤ k → k < result → slice_index text.now k ≢ 10 }
-    ensures ended { result < length text.now → slice_index text.now result ≡ 10 }
-{
-    for i in at..text.len() {
-        if text[i] == b'\n' {
-            return i;
+    // Where its line begins.
+    pub fn line_start(self) -> Place<'a>
+        ensures text { result.text.now ≡ self.entry.text.now }
+        ensures within { result.at ≤ self.entry.at }
+        ensures inside { (k : ℕ) → result.at ≤ k → k < self.entry.at → slice_index self.entry.text.now k ≢ 10 }
+        ensures before { 0 < result.at → slice_index self.entry.text.now (result.at - 1) ≡ 10 }
+    {
+        let before = &self.text[..self.at];
+        let last = before.iter().rposition(|byte| *byte == b'\n');
+        self.to(last.map_or(0, |last| last + 1))
+    }
+
+    // Its line's end: the place of a byte 10, or the text's end.
+    pub fn line_end(self) -> Place<'a>
+        ensures text { result.text.now ≡ self.entry.text.now }
+        ensures behind { self.entry.at ≤ result.at }
+        ensures inside { (k : ℕ) → self.entry.at ≤ k → k < result.at → slice_index self.entry.text.now k ≢ 10 }
+        ensures ended { result.at < length self.entry.text.now → slice_index self.entry.text.now result.at ≡ 10 }
+    {
+        self.to(self.at + line_length(&self.text[self.at..]))
+    }
+
+    // How many lines end before it, which is the number of its line.
+    pub fn line(self) -> usize
+        ensures within { result ≤ self.entry.at }
+        ensures value { result ≡ count_by (λ byte. byte == 10) (take self.entry.at self.entry.text.now) }
+    {
+        let before = &self.text[..self.at];
+        before.iter().filter(|byte| **byte == b'\n').count()
+    }
+
+    // How many bytes of its line are before it.
+    pub fn column(self) -> usize
+        ensures { result ≤ self.entry.at }
+    {
+        self.at - self.line_start().at
+    }
+
+    // The beginning of the next line, if there is one.
+    pub fn next_line(self) -> Option<Place<'a>>
+        ensures { MatchOption result
+            ((k : ℕ) → self.entry.at ≤ k → k < length self.entry.text.now → slice_index self.entry.text.now k ≢ 10)
+            (λ p. (p.text.now ≡ self.entry.text.now) × (self.entry.at < p.at)
+            × (slice_index self.entry.text.now (p.at - 1) ≡ 10)
+            × ((k : ℕ) → self.entry.at ≤ k → k < p.at - 1 → slice_index self.entry.text.now k ≢ 10)) }
+    {
+        let end = self.line_end();
+        if end.at < self.text.len() {
+            Some(self.to(end.at + 1))
+        } else {
+            None
         }
     }
-    text.len()
-}
 
-// How many lines end before a place, which is the number of its line.
-pub fn line_of(text: &[u8], at: usize) -> usize
-    requires { at ≤ length text.now }
-    ensures { result ≤ at }
-{
-    let mut line = 0;
-    for byte in &text[0..at] {
-        if *byte == b'\n' {
-            line += 1;
+    // Where a line of the text begins, if there are as many.
+    pub fn nth_line(self, line: usize) -> Option<Place<'a>>
+        ensures { IfSome result (λ p. p.text.now ≡ self.entry.text.now) }
+    {
+        let mut start = self.to(0);
+        for _ in 0..line {
+            start = start.next_line()?;
+        }
+        Some(start)
+    }
+
+    // The place itself, or the one before it where it is the end of a line that has bytes.
+    pub fn clamp(self) -> Place<'a>
+        ensures text { result.text.now ≡ self.entry.text.now }
+        ensures within { result.at ≤ self.entry.at }
+        ensures near { self.entry.at ≤ result.at + 1 }
+    {
+        if self.at > self.line_start().at && self.at == self.line_end().at {
+            self.to(self.at - 1)
+        } else {
+            self
         }
     }
-    line
-}
 
-// Where a line begins, if there are as many.
-pub fn nth_line(text: &[u8], line: usize) -> Option<usize>
-    ensures { IfSome result (λ start. start ≤ length text.now) }
-{
-    let mut start = 0;
-    for _ in 0..line {
-        let end = line_end(text, start);
-        if end == text.len() {
-            return None;
-        }
-        start = end + 1;
+    // The first place from here on that has no blank or tab.
+    pub fn past_blanks(self) -> Place<'a>
+        ensures text { result.text.now ≡ self.entry.text.now }
+        ensures behind { self.entry.at ≤ result.at }
+    {
+        let behind = &self.text[self.at..];
+        let first = behind
+            .iter()
+            .position(|byte| *byte != b' ' && *byte != b'\t');
+        self.to(self.at + first.unwrap_or(behind.len()))
     }
-    Some(start)
-}
 
-pub fn column_of(text: &[u8], at: usize) -> usize
-    requires { at ≤ length text.now }
-    ensures { result ≤ at }
-{
-    at - line_start(text, at)
-}
-
-// The place itself, or the one before it where it is the end of a line that has bytes.
-pub fn clamp(text: &[u8], at: usize) -> usize
-    requires { at ≤ length text.now }
-    ensures within { result ≤ at }
-    ensures near { at ≤ result + 1 }
-{
-    if at > line_start(text, at) && at == line_end(text, at) {
-        at - 1
-    } else {
-        at
+    // The line's first byte that is no blank or tab, or its last byte.
+    pub fn first_nonblank(self) -> Place<'a>
+        ensures { result.text.now ≡ self.entry.text.now }
+    {
+        self.line_start().past_blanks().clamp()
     }
-}
 
-// The line's first byte that is no blank or tab, or its last byte.
-pub fn first_nonblank(text: &[u8], at: usize) -> usize
-    requires { at ≤ length text.now }
-    ensures { result ≤ length text.now }
-{
-    let end = line_end(text, at);
-    for i in line_start(text, at)..end {
-        if text[i] != b' ' && text[i] != b'\t' {
-            return i;
-        }
+    // Where a column is in the line that begins here, at most the line's last byte.
+    pub fn in_column(self, column: usize) -> Place<'a>
+        ensures { result.text.now ≡ self.entry.text.now }
+    {
+        let width = self.line_end().at - self.at;
+        self.to(self.at + column.min(width)).clamp()
     }
-    clamp(text, end)
-}
-
-// Where a column is in the line that begins at `start`, at most the line's last byte.
-pub fn in_column(text: &[u8], start: usize, column: usize) -> usize
-    requires { start ≤ length text.now }
-    ensures { result ≤ length text.now }
-{
-    let width = line_end(text, start) - start;
-    clamp(text, start + column.min(width))
-}
-
-// The first place from here on that has no blank or tab.
-pub fn past_blanks(text: &[u8], from: usize) -> usize
-    requires { from ≤ length text.now }
-    ensures behind { from ≤ result }
-    ensures within { result ≤ length text.now }
-{
-    for i in from..text.len() {
-        if text[i] != b' ' && text[i] != b'\t' {
-            return i;
-        }
-    }
-    text.len()
 }

@@ -1,111 +1,119 @@
 //! Where words begin and end. A word is a longest run of one sort of byte that is not blank;
 //! an empty line counts as a word where one looks for beginnings.
-ghost use Rattle.std.specs.Prelude.{◌+◌, ◌<◌, ◌≤◌, length};
+ghost use Rattle.std.specs.Prelude.{◌≡◌, ◌+◌, ◌<◌, ◌≤◌, List, length};
+ghost use Rattle.std.specs.List.{FoldsTo};
 
-use crate::text::{Sort, sort_of};
+use crate::text::Place;
 
-fn begins_word(text: &[u8], at: usize) -> bool
-    requires { at ≤ length text.now }
-{
-    if at == text.len() || text[at] == b'\n' {
-        return at == 0 || text[at - 1] == b'\n';
-    }
-    let sort = sort_of(text[at]);
-    sort != Sort::Blank && (at == 0 || sort_of(text[at - 1]) != sort)
+#[derive(Clone, Copy, PartialEq, Eq)]
+enum Sort {
+    Blank,
+    Word,
+    Other,
 }
 
-fn ends_word(text: &[u8], at: usize) -> bool
-    requires { at < length text.now }
-{
-    let sort = sort_of(text[at]);
-    sort != Sort::Blank && (at + 1 == text.len() || sort_of(text[at + 1]) != sort)
-}
-
-// Where the next word begins, or the text's length if there is none.
-fn next_beginning(text: &[u8], at: usize) -> usize
-    requires { at ≤ length text.now }
-    ensures behind { at ≤ result }
-    ensures within { result ≤ length text.now }
-{
-    for i in at..text.len() {
-        if i > at && begins_word(text, i) {
-            return i;
+impl From<u8> for Sort {
+    fn from(byte: u8) -> Sort {
+        match byte {
+            b' ' | b'\t' | b'\n' => Sort::Blank,
+            b'a'..=b'z' | b'A'..=b'Z' | b'0'..=b'9' | b'_' | 128..=255 => Sort::Word,
+            _ => Sort::Other,
         }
     }
-    text.len()
 }
 
-// Where the last word before a place begins, or the text's beginning.
-fn previous_beginning(text: &[u8], at: usize) -> usize
-    requires { at ≤ length text.now }
-    ensures { result ≤ at }
-{
-    for i in (0..at).rev() {
-        if begins_word(text, i) {
-            return i;
-        }
-    }
-    0
+// Whether a byte is one of a word that its neighbour is no part of.
+fn is_outermost(byte: u8, neighbour: u8) -> bool {
+    let sort = Sort::from(byte);
+    sort != Sort::Blank && Sort::from(neighbour) != sort
 }
 
-// The last byte of the next word that ends behind a place, or the text's last byte.
-fn next_ending(text: &[u8], at: usize) -> usize
-    requires { at + 1 < length text.now }
-    ensures behind { at < result }
-    ensures within { result < length text.now }
-{
-    let last = text.len() - 1;
-    for i in at + 1..last {
-        if ends_word(text, i) {
-            return i;
-        }
-    }
-    last
+fn begins_word(before: u8, byte: u8) -> bool {
+    (before == b'\n' && byte == b'\n') || is_outermost(byte, before)
 }
 
-// So many words on, or the text's length if there are fewer.
-pub fn words_on(text: &[u8], at: usize, count: usize) -> usize
-    requires { at ≤ length text.now }
-    ensures behind { at ≤ result }
-    ensures within { result ≤ length text.now }
-{
-    let mut place = at;
-    for _ in 0..count {
-        if place == text.len() {
-            break;
-        }
-        place = next_beginning(text, place);
-    }
-    place
+fn ends_word(byte: u8, behind: u8) -> bool {
+    is_outermost(byte, behind)
 }
 
-// So many words back, or the text's beginning if there are fewer.
-pub fn words_back(text: &[u8], at: usize, count: usize) -> usize
-    requires { at ≤ length text.now }
-    ensures { result ≤ at }
-{
-    let mut place = at;
-    for _ in 0..count {
-        if place == 0 {
-            break;
-        }
-        place = previous_beginning(text, place);
+impl<'a> Place<'a> {
+    // Where the next word begins, or the text's end if there is none.
+    fn next_beginning(self) -> Place<'a>
+        ensures text { result.text.now ≡ self.entry.text.now }
+        ensures behind { self.entry.at ≤ result.at }
+    {
+        let first = self.text[self.at..]
+            .array_windows::<2>()
+            .position(|[before, byte]| begins_word(*before, *byte));
+        self.to(first.map_or(self.text.len(), |pair| self.at + pair + 1))
     }
-    place
-}
 
-// The last byte of the so-manieth word that ends behind, or of the text if there are fewer.
-pub fn word_ends_on(text: &[u8], at: usize, count: usize) -> usize
-    requires { at < length text.now }
-    ensures behind { at ≤ result }
-    ensures within { result < length text.now }
-{
-    let mut place = at;
-    for _ in 0..count {
-        if place + 1 == text.len() {
-            break;
-        }
-        place = next_ending(text, place);
+    // Where the last word before begins, or the text's beginning.
+    fn previous_beginning(self) -> Place<'a>
+        ensures text { result.text.now ≡ self.entry.text.now }
+        ensures before { result.at ≤ self.entry.at }
+    {
+        let last = self.text[..self.at]
+            .array_windows::<2>()
+            .rposition(|[before, byte]| begins_word(*before, *byte));
+        self.to(last.map_or(0, |pair| pair + 1))
     }
-    place
+
+    // The last byte of the next word that ends behind, or the text's last byte.
+    fn next_ending(self) -> Place<'a>
+        ensures text { result.text.now ≡ self.entry.text.now }
+        ensures behind { self.entry.at ≤ result.at }
+        ensures within { self.entry.at < length self.entry.text.now → result.at < length self.entry.text.now }
+    {
+        let last = self.text.len().saturating_sub(1);
+        if self.at >= last {
+            return self;
+        }
+        let first = self.text[self.at + 1..]
+            .array_windows::<2>()
+            .position(|[byte, behind]| ends_word(*byte, *behind));
+        self.to(first.map_or(last, |pair| self.at + 1 + pair))
+    }
+
+    // As many steps from here, or those before one that leads nowhere.
+    fn repeated<F: Fn(Place<'a>) -> Place<'a>>(self, step: F, count: usize) -> Place<'a>
+        requires { F.IsAlwaysCallable step }
+        ensures { (steps : List Unit) × (length steps ≤ count)
+            × FoldsTo (λ p _ q. F.post step p q) self.entry steps result }
+    {
+        let mut place = self;
+        for _ in 0..count {
+            let next = step(place);
+            if next.at == place.at {
+                break;
+            }
+            place = next;
+        }
+        place
+    }
+
+    // So many words on, or the text's end if there are fewer.
+    pub fn words_on(self, count: usize) -> Place<'a>
+        ensures text { result.text.now ≡ self.entry.text.now }
+        ensures behind { self.entry.at ≤ result.at }
+    {
+        self.repeated(Place::next_beginning, count)
+    }
+
+    // So many words back, or the text's beginning if there are fewer.
+    pub fn words_back(self, count: usize) -> Place<'a>
+        ensures text { result.text.now ≡ self.entry.text.now }
+        ensures before { result.at ≤ self.entry.at }
+    {
+        self.repeated(Place::previous_beginning, count)
+    }
+
+    // The last byte of the so-manieth word that ends behind, or of the text if there are fewer.
+    pub fn word_ends_on(self, count: usize) -> Place<'a>
+        ensures text { result.text.now ≡ self.entry.text.now }
+        ensures behind { self.entry.at ≤ result.at }
+        ensures within { self.entry.at < length self.entry.text.now → result.at < length self.entry.text.now }
+    {
+        self.repeated(Place::next_ending, count)
+    }
 }
