@@ -1,8 +1,8 @@
 //! The text in one piece, with the cursor in it.
 ghost use Rattle.std.specs.Prelude.{◌≡◌, ◌+◌, ◌-◌, ◌≤◌, min, ◌++◌, length, take, drop, vec_len, MatchResult};
 
-use crate::fault::Fault;
-use std::alloc::Global;
+use plain_lines::Place;
+use std::alloc::{AllocError, Global};
 
 #[derive(Drop)]
 pub struct Buffer {
@@ -19,18 +19,26 @@ impl Buffer {
         Buffer { text, cursor: 0 }
     }
 
-    pub fn bytes(&self) -> &[u8]
-        ensures value { result.now ≡ self.now.text.items }
-        ensures len { length result.now ≡ vec_len self.now.text }
+    // Where the cursor is.
+    pub fn here(&self) -> Place<'_>
+        ensures text { result.text.now ≡ self.now.text.items }
+        ensures cursor { result.at ≡ self.now.cursor }
     {
-        self.text.as_slice()
+        Place {
+            text: self.text.as_slice(),
+            at: self.cursor,
+        }
     }
 
-    pub fn cursor(&self) -> usize
-        ensures value { result ≡ self.now.cursor }
-        ensures within { result ≤ vec_len self.now.text }
+    // A place of the text, at most its end.
+    pub fn place(&self, at: usize) -> Place<'_>
+        ensures text { result.text.now ≡ self.now.text.items }
+        ensures at { result.at ≡ min at (vec_len self.now.text) }
     {
-        self.cursor
+        Place {
+            text: self.text.as_slice(),
+            at: at.min(self.text.len()),
+        }
     }
 
     // To a place, at most behind the text.
@@ -42,7 +50,13 @@ impl Buffer {
     }
 
     // Puts bytes in the place of those between two places, at the first of which the cursor is then.
-    pub fn replace(&mut self, heap: Global, from: usize, to: usize, new: &[u8]) -> Result<(), Fault>
+    pub fn replace(
+        &mut self,
+        heap: Global,
+        from: usize,
+        to: usize,
+        new: &[u8],
+    ) -> Result<(), AllocError>
         requires { (from ≤ to) × (to ≤ vec_len self.old.text) }
         ensures { MatchResult result
             (λ _. (self.new.text.items ≡ take from self.old.text.items ++ new.now ++ drop to self.old.text.items) × (self.new.cursor ≡ from))

@@ -1,44 +1,34 @@
 //! What each command does. One that can't be done returns with nothing changed.
+use crate::buffer::Buffer;
 use crate::editor::Editor;
-use crate::fault::Fault;
-use plain_keys::{
-    Command, Count, Extent, Motion, Operator, Shape, Side, destination, lines_from, taken_by,
-};
-use plain_lines::{first_nonblank, line_end, line_start, past_blanks};
-use std::alloc::Global;
-
-// Bytes, so many times.
-fn repeated(heap: Global, bytes: &[u8], times: usize) -> Result<Vec<u8>, Fault> {
-    let mut all = Vec::new(heap);
-    for _ in 0..times {
-        all.extend_from_slice(bytes)?;
-    }
-    Ok(all)
-}
+use crate::history::History;
+use plain_keys::{Command, Count, Motion, Shape, Side, destination, lines_from, taken_by};
+use std::alloc::{AllocError, Global};
 
 // Lines as they are put above a line, or below one.
-fn with_line_end(heap: Global, lines: &[u8], side: Side) -> Result<Vec<u8>, Fault> {
-    let mut all = Vec::new(heap);
-    if let Side::Behind = side {
-        all.push(b'\n')?;
+fn with_line_end(heap: Global, lines: &[u8], side: Side) -> Result<Vec<u8>, AllocError> {
+    let line_end = b"\n".as_slice();
+    match side {
+        Side::Before => [lines, line_end].concat(heap),
+        Side::Behind => [line_end, lines].concat(heap),
     }
-    all.extend_from_slice(lines)?;
-    if let Side::Before = side {
-        all.push(b'\n')?;
-    }
-    Ok(all)
 }
 
 impl Editor {
-    pub(crate) fn run(&mut self, command: Command) -> Result<(), Fault> {
+    pub(crate) fn run(&mut self, command: Command) -> Result<(), AllocError> {
         match command {
             Command::Move(motion, count) => {
                 self.go(motion, count);
                 Ok(())
             }
-            Command::Operate(operator, motion, count) => self.operate_by(operator, motion, count),
-            Command::OperateLines(operator, count) => self.operate_lines(operator, count),
-            Command::DeleteBytes(count) => self.delete_here(count),
+            Command::Operate(operator, motion, count) => {
+                let taken = taken_by(self.buffer.here(), motion, count);
+                self.operate(operator, taken)
+            }
+            Command::OperateLines(operator, count) => {
+                let taken = lines_from(self.buffer.here(), count);
+                self.operate(operator, taken)
+            }
             Command::Replace(byte, count) => self.replace_here(byte, count),
             Command::Join(count) => self.join(count),
             Command::Put(side, count) => match self.register.shape {
@@ -46,88 +36,56 @@ impl Editor {
                 Shape::Lines => self.put_lines(side, count),
             },
             Command::Insert(opening) => self.begin_inserting(opening),
-            Command::Undo(count) => self.undo(count),
-            Command::Redo(count) => self.redo(count),
+            Command::Undo(count) => self.travel(count, History::undo),
+            Command::Redo(count) => self.travel(count, History::redo),
         }
     }
 
     fn go(&mut self, motion: Motion, count: Count) {
-        let text = self.buffer.bytes();
-        let Some(place) = destination(text, self.buffer.cursor(), self.column, motion, count) else {
+        let Some(place) = destination(self.buffer.here(), self.column, motion, count) else {
             return;
         };
+        let place = place.at;
         match motion {
             Motion::Down | Motion::Up => self.buffer.move_to(place),
             _ => self.stand(place),
         }
     }
 
-    fn operate_by(
-        &mut self,
-        operator: Operator,
-        motion: Motion,
-        count: Count,
-    ) -> Result<(), Fault> {
-        let Some(extent) = taken_by(self.buffer.bytes(), self.buffer.cursor(), motion, count) else {
-            return Ok(());
-        };
-        self.operate(operator, extent)
-    }
-
-    fn operate_lines(&mut self, operator: Operator, count: Count) -> Result<(), Fault> {
-        let Some(extent) = lines_from(self.buffer.bytes(), self.buffer.cursor(), count) else {
-            return Ok(());
-        };
-        self.operate(operator, extent)
-    }
-
-    // At most to the line's end.
-    fn delete_here(&mut self, count: Count) -> Result<(), Fault> {
-        let from = self.buffer.cursor();
-        let end = line_end(self.buffer.bytes(), from);
-        let to = from.saturating_add(count.times()).min(end);
-        self.delete_bytes(Extent {
-            from,
-            to,
-            shape: Shape::Bytes,
-        })
-    }
-
-    fn replace_here(&mut self, byte: u8, count: Count) -> Result<(), Fault> {
+    fn replace_here(&mut self, byte: u8, count: Count) -> Result<(), AllocError> {
         let times = count.times();
-        let at = self.buffer.cursor();
-        let end = line_end(self.buffer.bytes(), at);
-        if times > end - at || byte < b' ' || byte == 127 {
+        let here = self.buffer.here();
+        let at = here.at;
+        if times > here.line_end().at - at || byte < b' ' || byte == 127 {
             return Ok(());
         }
-        let new = repeated(self.heap, &[byte], times)?;
+        let new = vec![in self.heap; byte; times]?;
         self.replace(at, at + times, new.as_slice())?;
         self.stand((at + times).saturating_sub(1));
         Ok(())
     }
 
-    fn join(&mut self, count: Count) -> Result<(), Fault> {
-        for _ in 0..count.times().max(2) - 1 {
-            let text = self.buffer.bytes();
-            let end = line_end(text, self.buffer.cursor());
-            if end == text.len() {
+    fn join(&mut self, count: Count) -> Result<(), AllocError> {
+        for _ in 1..count.times().max(2) {
+            let end = self.buffer.here().line_end();
+            let Some(next) = end.next_line() else {
                 break;
-            }
-            let next = past_blanks(text, end + 1);
+            };
+            let end = end.at;
+            let next = next.past_blanks().at;
             self.replace(end, next, b" ")?;
             self.stand(end);
         }
         Ok(())
     }
 
-    fn put_bytes(&mut self, side: Side, count: Count) -> Result<(), Fault> {
-        let text = self.buffer.bytes();
-        let at = self.buffer.cursor();
+    fn put_bytes(&mut self, side: Side, count: Count) -> Result<(), AllocError> {
+        let here = self.buffer.here();
         let place = match side {
-            Side::Before => at,
-            Side::Behind => at.saturating_add(1).min(line_end(text, at)),
+            Side::Before => here.at,
+            Side::Behind => here.right(1).at,
         };
-        let new = repeated(self.heap, self.register.bytes.as_slice(), count.times())?;
+        let new = self.register.bytes.repeat(self.heap, count.times())?;
         if !new.is_empty() {
             self.replace(place, place, new.as_slice())?;
             self.stand(place.saturating_add(new.len() - 1));
@@ -135,35 +93,35 @@ impl Editor {
         Ok(())
     }
 
-    fn put_lines(&mut self, side: Side, count: Count) -> Result<(), Fault> {
+    fn put_lines(&mut self, side: Side, count: Count) -> Result<(), AllocError> {
         let once = with_line_end(self.heap, self.register.bytes.as_slice(), side)?;
-        let new = repeated(self.heap, once.as_slice(), count.times())?;
-        let text = self.buffer.bytes();
-        let at = self.buffer.cursor();
+        let new = once.repeat(self.heap, count.times())?;
+        let here = self.buffer.here();
         let (place, first) = match side {
-            Side::Before => (line_start(text, at), line_start(text, at)),
-            Side::Behind => (line_end(text, at), line_end(text, at).saturating_add(1)),
+            Side::Before => {
+                let start = here.line_start().at;
+                (start, start)
+            }
+            Side::Behind => {
+                let end = here.line_end().at;
+                (end, end.saturating_add(1))
+            }
         };
         self.replace(place, place, new.as_slice())?;
-        let text = self.buffer.bytes();
-        let nonblank = first_nonblank(text, first.min(text.len()));
-        self.stand(nonblank);
+        self.stand_on_nonblank(first);
         Ok(())
     }
 
-    fn undo(&mut self, count: Count) -> Result<(), Fault> {
+    // Through the history, so many steps or as many as there are.
+    fn travel<F: Fn(&mut History, &mut Buffer) -> Result<Option<usize>, AllocError>>(
+        &mut self,
+        count: Count,
+        step: F,
+    ) -> Result<(), AllocError>
+        requires { F.IsAlwaysCallable step }
+    {
         for _ in 0..count.times() {
-            let Some(place) = self.history.undo(&mut self.buffer)? else {
-                break;
-            };
-            self.stand(place);
-        }
-        Ok(())
-    }
-
-    fn redo(&mut self, count: Count) -> Result<(), Fault> {
-        for _ in 0..count.times() {
-            let Some(place) = self.history.redo(&mut self.buffer)? else {
+            let Some(place) = step(&mut self.history, &mut self.buffer)? else {
                 break;
             };
             self.stand(place);

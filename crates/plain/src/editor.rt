@@ -2,17 +2,37 @@
 ghost use Rattle.std.specs.Prelude.{◌≡◌, ◌≤◌, length, vec_len};
 
 use crate::buffer::Buffer;
-use crate::fault::Fault;
 use crate::history::{History, UndoUnit};
 use plain_keys::{Next, Pending, Shape};
-use plain_lines::{Size, Window, clamp, column_of, line_of};
-use std::alloc::Global;
-use std::mem;
+use plain_lines::{Size, Window};
+use std::alloc::{AllocError, Global};
+use std::{fmt, mem};
 
-#[derive(Clone, Copy, PartialEq, Eq)]
+#[derive(Clone, Copy)]
 pub enum Mode {
-    Normal,
+    // with the command as far as it is typed
+    Normal(Pending),
     Inserting,
+}
+
+impl Mode {
+    // Where no key of a command was typed yet.
+    pub fn at_rest() -> Mode {
+        Mode::Normal(Pending::nothing())
+    }
+
+    fn is_at_rest(self) -> bool {
+        matches!(self, Mode::Normal(pending) if pending.is_nothing())
+    }
+}
+
+impl fmt::Display for Mode {
+    fn fmt<W: fmt::Write>(&self, f: &mut fmt::Formatter<W>) -> fmt::Result {
+        match self {
+            Mode::Normal(_) => write!(f, "N"),
+            Mode::Inserting => write!(f, "I"),
+        }
+    }
 }
 
 // What was last taken. Lines have no line end behind the last one.
@@ -22,14 +42,13 @@ pub struct Register {
     pub shape: Shape,
 }
 
-// The command that is being typed: its keys, where it began, and what it has changed so far.
+// The command that is being typed: its keys, where it began, and how it is undone once it has
+// changed the text.
 #[derive(Drop)]
 pub struct OpenCommand {
     keys: Vec<u8>,
     began: usize,
-    // the text before its first change
-    before: Option<Vec<u8>>,
-    changed: usize,
+    unit: Option<UndoUnit>,
 }
 
 #[derive(Drop)]
@@ -39,7 +58,6 @@ pub struct Editor {
     // the one that j and k keep to
     pub(crate) column: usize,
     pub(crate) mode: Mode,
-    pub(crate) pending: Pending,
     pub(crate) register: Register,
     pub(crate) history: History,
     pub(crate) open: OpenCommand,
@@ -58,8 +76,7 @@ impl Editor {
             heap,
             buffer: Buffer::new(text),
             column: 0,
-            mode: Mode::Normal,
-            pending: Pending::nothing(),
+            mode: Mode::at_rest(),
             register: Register {
                 bytes: Vec::new(heap),
                 shape: Shape::Bytes,
@@ -68,8 +85,7 @@ impl Editor {
             open: OpenCommand {
                 keys: Vec::new(heap),
                 began: 0,
-                before: None,
-                changed: 0,
+                unit: None,
             },
             last_keys: Vec::new(heap),
             window: Window::new(size),
@@ -79,78 +95,89 @@ impl Editor {
     pub fn text(&self) -> &[u8]
         ensures { result.now ≡ self.now.buffer.text.items }
     {
-        self.buffer.bytes()
+        self.buffer.here().text
     }
 
     pub fn cursor(&self) -> usize
         ensures value { result ≡ self.now.buffer.cursor }
         ensures within { result ≤ length self.now.buffer.text.items }
     {
-        self.buffer.cursor()
+        self.buffer.here().at
     }
 
     // To a place or, where one can't stand on it, the one before; its column is kept from now on.
     pub(crate) fn stand(&mut self, place: usize) {
-        let text = self.buffer.bytes();
-        let place = clamp(text, place.min(text.len()));
-        self.column = column_of(text, place);
-        self.buffer.move_to(place);
+        let place = self.buffer.place(place).clamp();
+        self.column = place.column();
+        let at = place.at;
+        self.buffer.move_to(at);
+    }
+
+    // To the first byte that is not blank of a place's line.
+    pub(crate) fn stand_on_nonblank(&mut self, place: usize) {
+        let first = self.buffer.place(place).first_nonblank().at;
+        self.stand(first);
     }
 
     // Changes the text, as a part of the open command.
-    pub(crate) fn replace(&mut self, from: usize, to: usize, new: &[u8]) -> Result<(), Fault>
+    pub(crate) fn replace(&mut self, from: usize, to: usize, new: &[u8]) -> Result<(), AllocError>
         requires { (from ≤ to) × (to ≤ vec_len self.old.buffer.text) }
     {
         if from == to && new.is_empty() {
             return Ok(());
         }
-        if self.open.before.is_none() {
-            self.open.before = Some(Vec::from_slice(self.heap, self.buffer.bytes())?);
+        if let Some(unit) = &mut self.open.unit {
+            unit.changed = from;
+        } else {
+            self.open.unit = Some(UndoUnit {
+                text: Vec::from_slice(self.heap, self.buffer.here().text)?,
+                began: self.open.began,
+                changed: from,
+            });
         }
-        self.open.changed = from;
         self.buffer.replace(self.heap, from, to, new)
     }
 
-    // Whether no key of a command was typed yet.
-    fn is_at_rest(&self) -> bool {
-        self.mode == Mode::Normal && self.pending.is_nothing()
-    }
-
     // Does one key.
-    pub fn press(&mut self, key: u8) -> Result<(), Fault> {
-        match (self.mode, self.pending.next(key)) {
-            (Mode::Normal, Next::Repeat(count)) => self.repeat(count.times())?,
-            _ => self.type_key(key)?,
+    pub fn press(&mut self, key: u8) -> Result<(), AllocError> {
+        match self.mode {
+            Mode::Normal(pending) => self.press_in_command(pending, key)?,
+            Mode::Inserting => self.type_key(key)?,
         }
-        let text = self.buffer.bytes();
-        let at = self.buffer.cursor();
-        self.window = self.window.follow(line_of(text, at), column_of(text, at));
+        let here = self.buffer.here();
+        self.window = self.window.follow(here.line(), here.column());
         Ok(())
     }
 
-    fn type_key(&mut self, key: u8) -> Result<(), Fault> {
-        if self.is_at_rest() {
+    fn press_in_command(&mut self, pending: Pending, key: u8) -> Result<(), AllocError> {
+        match pending.next(key) {
+            Next::Repeat(count) => self.repeat(count.times()),
+            _ => self.type_key(key),
+        }
+    }
+
+    fn type_key(&mut self, key: u8) -> Result<(), AllocError> {
+        if self.mode.is_at_rest() {
             self.open.keys.clear();
-            self.open.began = self.buffer.cursor();
+            self.open.began = self.buffer.here().at;
         }
         self.open.keys.push(key)?;
         match self.mode {
             Mode::Inserting => self.insert_key(key)?,
-            Mode::Normal => self.command_key(key)?,
+            Mode::Normal(pending) => self.command_key(pending.next(key))?,
         }
-        if self.is_at_rest() {
+        if self.mode.is_at_rest() {
             self.close_command()
         } else {
             Ok(())
         }
     }
 
-    fn command_key(&mut self, key: u8) -> Result<(), Fault> {
-        let next = self.pending.next(key);
-        self.pending = Pending::nothing();
+    fn command_key(&mut self, next: Next) -> Result<(), AllocError> {
+        self.mode = Mode::at_rest();
         match next {
             Next::More(pending) => {
-                self.pending = pending;
+                self.mode = Mode::Normal(pending);
                 Ok(())
             }
             Next::Run(command) => self.run(command),
@@ -159,29 +186,28 @@ impl Editor {
     }
 
     // A command that changed something can be undone and repeated.
-    fn close_command(&mut self) -> Result<(), Fault> {
-        if let Some(before) = self.open.before.take() {
-            self.history
-                .record(UndoUnit::new(before, self.open.began, self.open.changed))?;
+    fn close_command(&mut self) -> Result<(), AllocError> {
+        if let Some(unit) = self.open.unit.take() {
+            self.history.record(unit)?;
             self.last_keys = mem::replace(&mut self.open.keys, Vec::new(self.heap));
         }
         Ok(())
     }
 
-    fn repeat(&mut self, times: usize) -> Result<(), Fault> {
-        self.pending = Pending::nothing();
+    fn repeat(&mut self, times: usize) -> Result<(), AllocError> {
+        self.mode = Mode::at_rest();
         let keys = mem::replace(&mut self.last_keys, Vec::new(self.heap));
-        let result = self.replay(keys.as_slice(), times);
+        let replayed = self.replay(keys.as_slice(), times);
         self.last_keys = keys;
-        result
+        replayed
     }
 
     // Types keys so often, each time until the command has ended.
-    fn replay(&mut self, keys: &[u8], times: usize) -> Result<(), Fault> {
+    fn replay(&mut self, keys: &[u8], times: usize) -> Result<(), AllocError> {
         'repetitions: for _ in 0..times {
             for key in keys {
                 self.type_key(*key)?;
-                if self.is_at_rest() {
+                if self.mode.is_at_rest() {
                     continue 'repetitions;
                 }
             }

@@ -1,25 +1,15 @@
 //! The commands that can be undone and redone, each with a whole text.
 use crate::buffer::Buffer;
-use crate::fault::Fault;
-use std::alloc::Global;
+use std::alloc::{AllocError, Global};
 
 #[derive(Drop)]
 pub struct UndoUnit {
     // the text on the other side of the command: before it while it can be undone, else behind it
-    text: Vec<u8>,
-    began: usize,
-    changed: usize,
-}
-
-impl UndoUnit {
-    // A command that began at a place of a text, and made its last change at another.
-    pub fn new(before: Vec<u8>, began: usize, changed: usize) -> UndoUnit {
-        UndoUnit {
-            text: before,
-            began,
-            changed,
-        }
-    }
+    pub text: Vec<u8>,
+    // where the cursor was at the beginning of the command
+    pub began: usize,
+    // where its last change was made
+    pub changed: usize,
 }
 
 #[derive(Drop)]
@@ -37,31 +27,37 @@ impl History {
     }
 
     // A new change forgets what could be redone.
-    pub fn record(&mut self, unit: UndoUnit) -> Result<(), Fault> {
+    pub fn record(&mut self, unit: UndoUnit) -> Result<(), AllocError> {
         self.redo.clear();
         self.undo.push(unit)?;
         Ok(())
     }
 
     // Undoes a command, and gives the place where it began.
-    pub fn undo(&mut self, buffer: &mut Buffer) -> Result<Option<usize>, Fault> {
-        let Some(mut unit) = self.undo.pop() else {
-            return Ok(None);
-        };
-        let place = unit.began;
-        buffer.exchange(&mut unit.text);
-        self.redo.push(unit)?;
-        Ok(Some(place))
+    pub fn undo(&mut self, buffer: &mut Buffer) -> Result<Option<usize>, AllocError> {
+        exchange(buffer, &mut self.undo, &mut self.redo, |unit| unit.began)
     }
 
     // Does an undone command again, and gives the place of its last change.
-    pub fn redo(&mut self, buffer: &mut Buffer) -> Result<Option<usize>, Fault> {
-        let Some(mut unit) = self.redo.pop() else {
-            return Ok(None);
-        };
-        let place = unit.changed;
-        buffer.exchange(&mut unit.text);
-        self.undo.push(unit)?;
-        Ok(Some(place))
+    pub fn redo(&mut self, buffer: &mut Buffer) -> Result<Option<usize>, AllocError> {
+        exchange(buffer, &mut self.redo, &mut self.undo, |unit| unit.changed)
     }
+}
+
+// Exchanges the text with the one of the last unit, which can then be done the other way.
+fn exchange<F: FnOnce(&UndoUnit) -> usize>(
+    buffer: &mut Buffer,
+    from: &mut Vec<UndoUnit>,
+    to: &mut Vec<UndoUnit>,
+    place: F,
+) -> Result<Option<usize>, AllocError>
+    requires { F.IsAlwaysCallable place }
+{
+    let Some(mut unit) = from.pop() else {
+        return Ok(None);
+    };
+    let place = place(&unit);
+    buffer.exchange(&mut unit.text);
+    to.push(unit)?;
+    Ok(Some(place))
 }

@@ -1,8 +1,7 @@
 //! Where inserting begins, and what keys do then.
 use crate::editor::{Editor, Mode};
-use crate::fault::Fault;
 use plain_keys::{ESCAPE, Opening};
-use plain_lines::{column_of, first_nonblank, line_end, line_start};
+use std::alloc::AllocError;
 
 const BACKSPACE: u8 = 0x08;
 
@@ -14,21 +13,20 @@ impl Editor {
         self.mode = Mode::Inserting;
     }
 
-    pub(crate) fn begin_inserting(&mut self, opening: Opening) -> Result<(), Fault> {
-        let text = self.buffer.bytes();
-        let at = self.buffer.cursor();
-        let end = line_end(text, at);
+    pub(crate) fn begin_inserting(&mut self, opening: Opening) -> Result<(), AllocError> {
+        let here = self.buffer.here();
+        let start = here.line_start().at;
+        let end = here.line_end().at;
         let place = match opening {
-            Opening::Before => at,
-            Opening::Behind => at.saturating_add(1).min(end),
-            Opening::FirstNonblank => first_nonblank(text, at),
+            Opening::Before => here.at,
+            Opening::Behind => here.right(1).at,
+            Opening::FirstNonblank => here.first_nonblank().at,
             Opening::LineEnd => end,
             Opening::LineBelow => {
                 self.replace(end, end, b"\n")?;
                 end.saturating_add(1)
             }
             Opening::LineAbove => {
-                let start = line_start(text, at);
                 self.replace(start, start, b"\n")?;
                 start
             }
@@ -37,7 +35,7 @@ impl Editor {
         Ok(())
     }
 
-    pub(crate) fn insert_key(&mut self, key: u8) -> Result<(), Fault> {
+    pub(crate) fn insert_key(&mut self, key: u8) -> Result<(), AllocError> {
         match key {
             ESCAPE => {
                 self.end_inserting();
@@ -50,26 +48,22 @@ impl Editor {
         }
     }
 
-    fn insert_byte(&mut self, byte: u8) -> Result<(), Fault> {
-        let at = self.buffer.cursor();
+    fn insert_byte(&mut self, byte: u8) -> Result<(), AllocError> {
+        let at = self.buffer.here().at;
         self.replace(at, at, &[byte])?;
         self.buffer.move_to(at.saturating_add(1));
         Ok(())
     }
 
-    fn delete_before(&mut self) -> Result<(), Fault> {
-        let at = self.buffer.cursor();
-        if at > 0 {
-            self.replace(at - 1, at, b"")?;
-        }
-        Ok(())
+    fn delete_before(&mut self) -> Result<(), AllocError> {
+        let at = self.buffer.here().at;
+        self.replace(at.saturating_sub(1), at, b"")
     }
 
     // The cursor goes left by one, if it can.
     fn end_inserting(&mut self) {
-        self.mode = Mode::Normal;
-        let at = self.buffer.cursor();
-        let column = column_of(self.buffer.bytes(), at);
-        self.stand(at - column.min(1));
+        self.mode = Mode::at_rest();
+        let place = self.buffer.here().left(1).at;
+        self.stand(place);
     }
 }

@@ -5,13 +5,11 @@
 mod buffer;
 mod commands;
 mod editor;
-mod fault;
 mod history;
 mod inserting;
 mod operators;
 mod screen;
 
 pub use editor::Editor;
-pub use fault::Fault;
 pub use plain_lines::Size;
 pub use screen::Position;

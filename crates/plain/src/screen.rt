@@ -1,9 +1,9 @@
 //! What the screen shows, row by row, and where the cursor is on it.
 ghost use Rattle.std.specs.Prelude.{◌≡◌, ◌+◌, ◌<◌, ◌≤◌, IfOk, vec_len};
 
-use crate::editor::{Editor, Mode};
-use crate::fault::Fault;
-use plain_lines::{Size, column_of, line_end, line_of, nth_line};
+use crate::editor::Editor;
+use plain_lines::Size;
+use std::alloc::AllocError;
 
 const CANCEL: u8 = 0x18;
 
@@ -42,7 +42,7 @@ impl Editor {
     }
 
     // A row of the screen, as wide as it.
-    pub fn row(&self, row: usize) -> Result<Vec<u8>, Fault>
+    pub fn row(&self, row: usize) -> Result<Vec<u8>, AllocError>
         ensures { IfOk result (λ v. vec_len v ≡ self.now.window.size.columns) }
     {
         let size = self.window.size;
@@ -56,39 +56,32 @@ impl Editor {
     }
 
     // What is seen of a line, or a tilde behind the text.
-    fn text_row(&self, row: usize) -> Result<Vec<u8>, Fault> {
-        let mut cells = Vec::new(self.heap);
-        let text = self.buffer.bytes();
-        let Some(start) = nth_line(text, self.window.top.saturating_add(row)) else {
-            cells.push(b'~')?;
-            return Ok(cells);
+    fn text_row(&self, row: usize) -> Result<Vec<u8>, AllocError> {
+        let line = self.window.top.saturating_add(row);
+        let Some(start) = self.buffer.here().nth_line(line) else {
+            return Vec::from_slice(self.heap, b"~");
         };
-        let end = line_end(text, start);
-        let from = start.saturating_add(self.window.left).min(end);
-        let to = from.saturating_add(self.window.size.columns()).min(end);
-        for byte in &text[from..to] {
-            cells.push(shown(*byte))?;
-        }
-        Ok(cells)
+        let first = start.right(self.window.left);
+        let end = first.right(self.window.size.columns());
+        first.text[first.at..end.at]
+            .iter()
+            .map(|byte| shown(*byte))
+            .collect(self.heap)
     }
 
     // The mode, and the line and the column of the cursor, counted from 1.
-    fn status_row(&self) -> Result<Vec<u8>, Fault> {
-        let text = self.buffer.bytes();
-        let at = self.buffer.cursor();
-        let mode = match self.mode {
-            Mode::Normal => 'N',
-            Mode::Inserting => 'I',
-        };
-        let line = line_of(text, at).saturating_add(1);
-        let column = column_of(text, at).saturating_add(1);
+    fn status_row(&self) -> Result<Vec<u8>, AllocError> {
+        let mode = self.mode;
+        let here = self.buffer.here();
+        let line = here.line().saturating_add(1);
+        let column = here.column().saturating_add(1);
         let status = format!(in self.heap; "{mode} {line},{column}")?;
-        Ok(Vec::from_slice(self.heap, status.as_bytes())?)
+        Ok(status.into_bytes())
     }
 
     // Bytes that make any terminal of this size show the screen: a byte that ends a sequence in
     // which the terminal may be, every row, and the cursor.
-    pub fn painting(&self) -> Result<Vec<u8>, Fault> {
+    pub fn painting(&self) -> Result<Vec<u8>, AllocError> {
         let mut out = Vec::new(self.heap);
         out.push(CANCEL)?;
         for row in 0..self.window.size.rows() {
@@ -100,11 +93,10 @@ impl Editor {
     }
 
     // A terminal counts from 1.
-    fn paint_move(&self, out: &mut Vec<u8>, position: Position) -> Result<(), Fault> {
+    fn paint_move(&self, out: &mut Vec<u8>, position: Position) -> Result<(), AllocError> {
         let row = position.row.saturating_add(1);
         let column = position.column.saturating_add(1);
         let sequence = format!(in self.heap; "\x1b[{row};{column}H")?;
-        out.extend_from_slice(sequence.as_bytes())?;
-        Ok(())
+        out.extend_from_slice(sequence.as_bytes())
     }
 }

@@ -37,10 +37,9 @@ impl Count {
 
     // The count in all, of one before an operator and one behind it.
     pub fn combined(self, behind: Count) -> Count {
-        match (self.0, behind.0) {
-            (Some(n), Some(m)) => Count(Some(n.saturating_mul(m))),
-            (Some(_), None) => self,
-            (None, _) => behind,
-        }
+        Count(match (self.0, behind.0) {
+            (Some(n), Some(m)) => Some(n.saturating_mul(m)),
+            (one, other) => one.or(other),
+        })
     }
 }

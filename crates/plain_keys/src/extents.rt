@@ -1,9 +1,9 @@
 //! What an operator takes that stands before a motion, or is typed twice.
-ghost use Rattle.std.specs.Prelude.{◌≤◌, length, IfSome};
+ghost use Rattle.std.specs.Prelude.{◌≡◌, ◌≤◌, ◌↔◌, length, IsTrue, IfSome};
 
 use crate::count::Count;
 use crate::motion::{Motion, destination, elsewhere, end_below, find, word_end};
-use plain_lines::{clamp, line_end, line_start, words_on};
+use plain_lines::Place;
 
 #[derive(Clone, Copy)]
 pub enum Shape {
@@ -17,16 +17,24 @@ pub struct Extent {
     pub from: usize,
     pub to: usize,
     pub shape: Shape,
+    ghost ordered: { from ≤ to },
+}
+
+impl Extent {
+    pub fn is_empty(self) -> bool
+        ensures { IsTrue result ↔ (self.from ≡ self.to) }
+    {
+        self.from == self.to
+    }
 }
 
 // How far `w` takes bytes: once, it stays in a line that has any left.
-fn word_reach(text: &[u8], at: usize, count: usize) -> Option<usize>
-    requires { at ≤ length text.now }
-    ensures { IfSome result (λ p. p ≤ length text.now) }
+fn word_reach(here: Place, count: usize) -> Option<Place>
+    ensures { IfSome result (λ p. p.text.now ≡ here.entry.text.now) }
 {
-    let place = elsewhere(at, words_on(text, at, count))?;
-    let end = line_end(text, at);
-    if count == 1 && at < end && end < place {
+    let place = elsewhere(here, here.words_on(count))?;
+    let end = here.line_end();
+    if count == 1 && here.at < end.at && end.at < place.at {
         Some(end)
     } else {
         Some(place)
@@ -35,60 +43,49 @@ fn word_reach(text: &[u8], at: usize, count: usize) -> Option<usize>
 
 // Up to where a motion by bytes takes them: behind the last one, of those that take it along.
 // A line end isn't taken along: `e` at the text's end stops before the last one.
-fn reach(text: &[u8], at: usize, motion: Motion, count: Count) -> Option<usize>
-    requires { at ≤ length text.now }
-    ensures { IfSome result (λ p. p ≤ length text.now) }
+fn reach(here: Place, motion: Motion, count: Count) -> Option<Place>
+    ensures { IfSome result (λ p. p.text.now ≡ here.entry.text.now) }
 {
     let times = count.times();
     match motion {
-        Motion::Right => elsewhere(at, at.saturating_add(times).min(line_end(text, at))),
-        Motion::WordForward => word_reach(text, at, times),
-        Motion::WordEnd => {
-            let end = word_end(text, at, times)?;
-            let last = clamp(text, end);
-            Some(last.saturating_add(1).min(line_end(text, last)))
-        }
-        Motion::Find(byte) => {
-            let found = find(text, at, byte, times)?;
-            Some(found + 1)
-        }
-        Motion::Till(byte) => find(text, at, byte, times),
-        Motion::LineEnd => end_below(text, at, times),
-        _ => destination(text, at, 0, motion, count),
+        Motion::Right => elsewhere(here, here.right(times)),
+        Motion::WordForward => word_reach(here, times),
+        Motion::WordEnd => Some(word_end(here, times)?.clamp().right(1)),
+        Motion::Find(byte) => Some(find(here, byte, times)?.right(1)),
+        Motion::Till(byte) => find(here, byte, times),
+        Motion::LineEnd => end_below(here, times),
+        _ => destination(here, 0, motion, count),
     }
 }
 
-// The lines of two places and those between.
-fn lines_between(text: &[u8], one: usize, other: usize) -> Extent
-    requires { (one ≤ length text.now) × (other ≤ length text.now) }
-    ensures before { (result.from ≤ one) × (result.from ≤ other) }
-    ensures behind { (one ≤ result.to) × (other ≤ result.to) }
-    ensures within { result.to ≤ length text.now }
+// The lines of two places of a text and those between.
+fn lines_between(one: Place, other: Place) -> Extent
+    requires { one.text.now ≡ other.text.now }
+    ensures before { (result.from ≤ one.entry.at) × (result.from ≤ other.entry.at) }
+    ensures behind { (one.entry.at ≤ result.to) × (other.entry.at ≤ result.to) }
+    ensures within { result.to ≤ length one.entry.text.now }
 {
-    let from = line_start(text, one.min(other));
-    let to = line_end(text, one.max(other));
     Extent {
-        from,
-        to,
+        from: one.line_start().at.min(other.line_start().at),
+        to: one.line_end().at.max(other.line_end().at),
         shape: Shape::Lines,
     }
 }
 
 // What an operator before a motion takes, perhaps nothing; none where the motion can't be done.
-pub fn taken_by(text: &[u8], at: usize, motion: Motion, count: Count) -> Option<Extent>
-    requires { at ≤ length text.now }
-    ensures { IfSome result (λ e. (e.from ≤ at) × (at ≤ e.to) × (e.to ≤ length text.now)) }
+pub fn taken_by(here: Place, motion: Motion, count: Count) -> Option<Extent>
+    ensures { IfSome result (λ e. (e.from ≤ here.entry.at) × (here.entry.at ≤ e.to) × (e.to ≤ length here.entry.text.now)) }
 {
     match motion {
         Motion::Down | Motion::Up | Motion::ToLine | Motion::ToFirstLine => {
-            let place = destination(text, at, 0, motion, count)?;
-            Some(lines_between(text, at, place))
+            let place = destination(here, 0, motion, count)?;
+            Some(lines_between(here, place))
         }
         _ => {
-            let place = reach(text, at, motion, count)?;
+            let place = reach(here, motion, count)?;
             Some(Extent {
-                from: at.min(place),
-                to: at.max(place),
+                from: here.at.min(place.at),
+                to: here.at.max(place.at),
                 shape: Shape::Bytes,
             })
         }
@@ -96,10 +93,9 @@ pub fn taken_by(text: &[u8], at: usize, motion: Motion, count: Count) -> Option<
 }
 
 // As many lines from this one on; none where there are fewer.
-pub fn lines_from(text: &[u8], at: usize, count: Count) -> Option<Extent>
-    requires { at ≤ length text.now }
-    ensures { IfSome result (λ e. (e.from ≤ at) × (at ≤ e.to) × (e.to ≤ length text.now)) }
+pub fn lines_from(here: Place, count: Count) -> Option<Extent>
+    ensures { IfSome result (λ e. (e.from ≤ here.entry.at) × (here.entry.at ≤ e.to) × (e.to ≤ length here.entry.text.now)) }
 {
-    let end = end_below(text, at, count.times())?;
-    Some(lines_between(text, at, end))
+    let end = end_below(here, count.times())?;
+    Some(lines_between(here, end))
 }

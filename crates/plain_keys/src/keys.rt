@@ -27,6 +27,15 @@ pub enum Side {
     Behind,
 }
 
+// A key that waits for another one.
+#[derive(Clone, Copy)]
+pub enum Awaiting {
+    Goto,
+    Find,
+    Till,
+    Replace,
+}
+
 #[derive(Clone, Copy)]
 pub enum Key {
     // 1 to 9
@@ -35,11 +44,7 @@ pub enum Key {
     Zero,
     Motion(Motion),
     Operator(Operator),
-    // these four wait for another key
-    Goto,
-    Find,
-    Till,
-    Replace,
+    Await(Awaiting),
     DeleteBytes,
     Join,
     Put(Side),
@@ -51,58 +56,42 @@ pub enum Key {
     Cancel,
 }
 
-fn motion_of(byte: u8) -> Option<Motion> {
-    match byte {
-        b'h' => Some(Motion::Left),
-        b'l' => Some(Motion::Right),
-        b'j' => Some(Motion::Down),
-        b'k' => Some(Motion::Up),
-        b'^' => Some(Motion::FirstNonblank),
-        b'$' => Some(Motion::LineEnd),
-        b'w' => Some(Motion::WordForward),
-        b'b' => Some(Motion::WordBack),
-        b'e' => Some(Motion::WordEnd),
-        b'G' => Some(Motion::ToLine),
-        _ => None,
-    }
-}
-
-fn opening_of(byte: u8) -> Option<Opening> {
-    match byte {
-        b'i' => Some(Opening::Before),
-        b'a' => Some(Opening::Behind),
-        b'I' => Some(Opening::FirstNonblank),
-        b'A' => Some(Opening::LineEnd),
-        b'o' => Some(Opening::LineBelow),
-        b'O' => Some(Opening::LineAbove),
-        _ => None,
-    }
-}
-
-pub fn key_of(byte: u8) -> Key {
-    if let Some(motion) = motion_of(byte) {
-        return Key::Motion(motion);
-    }
-    if let Some(opening) = opening_of(byte) {
-        return Key::Insert(opening);
-    }
-    match byte {
-        b'1'..=b'9' => Key::Digit(byte - b'0'),
-        b'0' => Key::Zero,
-        b'd' => Key::Operator(Operator::Delete),
-        b'y' => Key::Operator(Operator::Yank),
-        b'c' => Key::Operator(Operator::Change),
-        b'g' => Key::Goto,
-        b'f' => Key::Find,
-        b't' => Key::Till,
-        b'r' => Key::Replace,
-        b'x' => Key::DeleteBytes,
-        b'J' => Key::Join,
-        b'p' => Key::Put(Side::Behind),
-        b'P' => Key::Put(Side::Before),
-        b'u' => Key::Undo,
-        0x12 => Key::Redo,
-        b'.' => Key::Repeat,
-        _ => Key::Cancel,
+impl From<u8> for Key {
+    fn from(byte: u8) -> Key {
+        match byte {
+            b'1'..=b'9' => Key::Digit(byte - b'0'),
+            b'0' => Key::Zero,
+            b'h' => Key::Motion(Motion::Left),
+            b'l' => Key::Motion(Motion::Right),
+            b'j' => Key::Motion(Motion::Down),
+            b'k' => Key::Motion(Motion::Up),
+            b'^' => Key::Motion(Motion::FirstNonblank),
+            b'$' => Key::Motion(Motion::LineEnd),
+            b'w' => Key::Motion(Motion::WordForward),
+            b'b' => Key::Motion(Motion::WordBack),
+            b'e' => Key::Motion(Motion::WordEnd),
+            b'G' => Key::Motion(Motion::ToLine),
+            b'd' => Key::Operator(Operator::Delete),
+            b'y' => Key::Operator(Operator::Yank),
+            b'c' => Key::Operator(Operator::Change),
+            b'g' => Key::Await(Awaiting::Goto),
+            b'f' => Key::Await(Awaiting::Find),
+            b't' => Key::Await(Awaiting::Till),
+            b'r' => Key::Await(Awaiting::Replace),
+            b'x' => Key::DeleteBytes,
+            b'J' => Key::Join,
+            b'p' => Key::Put(Side::Behind),
+            b'P' => Key::Put(Side::Before),
+            b'i' => Key::Insert(Opening::Before),
+            b'a' => Key::Insert(Opening::Behind),
+            b'I' => Key::Insert(Opening::FirstNonblank),
+            b'A' => Key::Insert(Opening::LineEnd),
+            b'o' => Key::Insert(Opening::LineBelow),
+            b'O' => Key::Insert(Opening::LineAbove),
+            b'u' => Key::Undo,
+            0x12 => Key::Redo,
+            b'.' => Key::Repeat,
+            _ => Key::Cancel,
+        }
     }
 }

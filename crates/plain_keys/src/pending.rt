@@ -1,16 +1,7 @@
 //! A command as far as it is typed, and what the next key makes of it.
 use crate::count::Count;
-use crate::keys::{ESCAPE, Key, Opening, Operator, Side, key_of};
+use crate::keys::{Awaiting, ESCAPE, Key, Opening, Operator, Side};
 use crate::motion::Motion;
-
-// A key that waits for another one.
-#[derive(Clone, Copy)]
-pub enum Awaiting {
-    Goto,
-    Find,
-    Till,
-    Replace,
-}
 
 #[derive(Clone, Copy)]
 pub enum Pending {
@@ -27,7 +18,6 @@ pub enum Command {
     Move(Motion, Count),
     Operate(Operator, Motion, Count),
     OperateLines(Operator, Count),
-    DeleteBytes(Count),
     Replace(u8, Count),
     Join(Count),
     Put(Side, Count),
@@ -50,20 +40,17 @@ impl Pending {
     }
 
     pub fn is_nothing(self) -> bool {
-        match self {
-            Pending::Counting(count) => !count.has_begun(),
-            _ => false,
-        }
+        matches!(self, Pending::Counting(count) if !count.has_begun())
     }
 
     pub fn next(self, byte: u8) -> Next {
         match self {
-            Pending::Counting(count) => after_count(count, key_of(byte)),
+            Pending::Counting(count) => after_count(count, Key::from(byte)),
             Pending::Operating(operator, before, behind) => after_operator(
                 operator,
                 before,
                 behind,
-                key_of(byte),
+                Key::from(byte),
             ),
             Pending::Waiting(awaiting, operator, count) => after_wait(
                 awaiting, operator, count, byte,
@@ -79,11 +66,8 @@ fn after_count(count: Count, key: Key) -> Next {
         Key::Zero => Next::Run(Command::Move(Motion::LineStart, count)),
         Key::Motion(motion) => Next::Run(Command::Move(motion, count)),
         Key::Operator(operator) => Next::More(Pending::Operating(operator, count, Count::none())),
-        Key::Goto => Next::More(Pending::Waiting(Awaiting::Goto, None, count)),
-        Key::Find => Next::More(Pending::Waiting(Awaiting::Find, None, count)),
-        Key::Till => Next::More(Pending::Waiting(Awaiting::Till, None, count)),
-        Key::Replace => Next::More(Pending::Waiting(Awaiting::Replace, None, count)),
-        Key::DeleteBytes => Next::Run(Command::DeleteBytes(count)),
+        Key::Await(awaiting) => Next::More(Pending::Waiting(awaiting, None, count)),
+        Key::DeleteBytes => Next::Run(Command::Operate(Operator::Delete, Motion::Right, count)),
         Key::Join => Next::Run(Command::Join(count)),
         Key::Put(side) => Next::Run(Command::Put(side, count)),
         Key::Insert(opening) => Next::Run(Command::Insert(opening)),
@@ -112,9 +96,8 @@ fn after_operator(operator: Operator, before: Count, behind: Count, key: Key) ->
         Key::Operator(same) if same == operator => Next::Run(Command::OperateLines(
             operator, count,
         )),
-        Key::Goto => Next::More(Pending::Waiting(Awaiting::Goto, Some(operator), count)),
-        Key::Find => Next::More(Pending::Waiting(Awaiting::Find, Some(operator), count)),
-        Key::Till => Next::More(Pending::Waiting(Awaiting::Till, Some(operator), count)),
+        Key::Await(Awaiting::Replace) => Next::Cancel,
+        Key::Await(awaiting) => Next::More(Pending::Waiting(awaiting, Some(operator), count)),
         _ => Next::Cancel,
     }
 }

@@ -66,9 +66,33 @@ impl<'a> Place<'a> {
 
     // How many bytes of its line are before it.
     pub fn column(self) -> usize
-        ensures { result ≤ self.entry.at }
+        ensures within { result ≤ self.entry.at }
+        ensures inside { (k : ℕ) → self.entry.at - result ≤ k → k < self.entry.at → slice_index self.entry.text.now k ≢ 10 }
+        ensures before { result < self.entry.at → slice_index self.entry.text.now (self.entry.at - result - 1) ≡ 10 }
     {
         self.at - self.line_start().at
+    }
+
+    // So many bytes back, at most to where its line begins.
+    pub fn left(self, count: usize) -> Place<'a>
+        ensures text { result.text.now ≡ self.entry.text.now }
+        ensures before { result.at ≤ self.entry.at }
+        ensures near { self.entry.at ≤ result.at + count }
+        ensures inside { (k : ℕ) → result.at ≤ k → k < self.entry.at → slice_index self.entry.text.now k ≢ 10 }
+        ensures full { self.entry.at < result.at + count → 0 < result.at → slice_index self.entry.text.now (result.at - 1) ≡ 10 }
+    {
+        self.to(self.at - count.min(self.column()))
+    }
+
+    // So many bytes on, at most to its line's end.
+    pub fn right(self, count: usize) -> Place<'a>
+        ensures text { result.text.now ≡ self.entry.text.now }
+        ensures behind { self.entry.at ≤ result.at }
+        ensures near { result.at ≤ self.entry.at + count }
+        ensures inside { (k : ℕ) → self.entry.at ≤ k → k < result.at → slice_index self.entry.text.now k ≢ 10 }
+        ensures full { result.at < self.entry.at + count → result.at < length self.entry.text.now → slice_index self.entry.text.now result.at ≡ 10 }
+    {
+        self.to(self.at.saturating_add(count).min(self.line_end().at))
     }
 
     // The beginning of the next line, if there is one.
@@ -134,7 +158,6 @@ impl<'a> Place<'a> {
     pub fn in_column(self, column: usize) -> Place<'a>
         ensures { result.text.now ≡ self.entry.text.now }
     {
-        let width = self.line_end().at - self.at;
-        self.to(self.at + column.min(width)).clamp()
+        self.right(column).clamp()
     }
 }

@@ -9,7 +9,8 @@ const MOST: usize = 9_999;
 #[derive(Clone, Copy)]
 pub enum Action {
     Write(u8),
-    // to a row and a column counted from 1; 0 is a number left out
+    // to a row and a column counted from 1
+    // Kept: 0 stands for a number left out too: both mean 1, and an Option would ask twice for one case.
     Move(usize, usize),
     ClearRest,
     Nothing,

@@ -9,8 +9,7 @@ use std::mem;
 #[derive(Drop)]
 pub struct Terminal {
     heap: Global,
-    rows: usize,
-    columns: usize,
+    size: Size,
     // row by row
     cells: Vec<u8>,
     // counted from 0; the column may be the one behind the row
@@ -18,23 +17,19 @@ pub struct Terminal {
     column: usize,
     // a sequence that has no end yet
     unread: Vec<u8>,
-    ghost size: { (rows ≤ 9999) × (columns ≤ 9999) },
-    ghost filled: { vec_len cells ≡ rows * columns },
-    ghost inside: { (row < rows) × (column ≤ columns) },
+    ghost filled: { vec_len cells ≡ size.rows * size.columns },
+    ghost inside: { (row < size.rows) × (column ≤ size.columns) },
 }
 
 impl Terminal {
     // Every cell has the same byte, and the cursor is in the first one.
     pub fn new(heap: Global, size: Size, fill: u8) -> Result<Terminal, AllocError>
-        ensures { IfOk result (λ t. (t.row ≡ 0) × (t.column ≡ 0) × (t.rows ≡ size.rows) × (t.columns ≡ size.columns)) }
+        ensures { IfOk result (λ t. (t.row ≡ 0) × (t.column ≡ 0) × (t.size ≡ size)) }
     {
-        let rows = size.rows();
-        let columns = size.columns();
-        let cells = vec![in heap; fill; rows * columns]?;
+        let cells = vec![in heap; fill; size.rows() * size.columns()]?;
         Ok(Terminal {
             heap,
-            rows,
-            columns,
+            size,
             cells,
             row: 0,
             column: 0,
@@ -45,31 +40,33 @@ impl Terminal {
     // The row and the column of the cursor.
     pub fn cursor(&self) -> (usize, usize)
         ensures value { (result.0 ≡ self.now.row) × (result.1 ≡ self.now.column) }
-        ensures within { (result.0 < self.now.rows) × (result.1 ≤ self.now.columns) }
+        ensures within { (result.0 < self.now.size.rows) × (result.1 ≤ self.now.size.columns) }
     {
         (self.row, self.column)
     }
 
     // The cells of a row, if there is one.
     pub fn row(&self, row: usize) -> Option<&[u8]>
-        ensures { MatchOption result (self.now.rows ≤ row) (λ cells. length cells.now ≡ self.now.columns) }
+        ensures { MatchOption result (self.now.size.rows ≤ row) (λ cells. length cells.now ≡ self.now.size.columns) }
     {
-        if row >= self.rows {
+        if row >= self.size.rows() {
             return None;
         }
-        let start = row * self.columns;
-        let end = start + self.columns;
+        let columns = self.size.columns();
+        let start = row * columns;
+        let end = start + columns;
         let cells = self.cells.as_slice();
         Some(&cells[start..end])
     }
 
     // Where it can't be written any more, it is lost.
     fn write(&mut self, byte: u8)
-        ensures written { self.old.column < self.old.columns → (self.new.cells.items ≡ slice_set self.old.cells.items (self.old.row * self.old.columns + self.old.column) byte) × (self.new.column ≡ self.old.column + 1) }
-        ensures lost { self.old.column ≡ self.old.columns → self.new ≡ self.old }
+        ensures written { self.old.column < self.old.size.columns → (self.new.cells.items ≡ slice_set self.old.cells.items (self.old.row * self.old.size.columns + self.old.column) byte) × (self.new.column ≡ self.old.column + 1) }
+        ensures lost { self.old.column ≡ self.old.size.columns → self.new ≡ self.old }
     {
-        if self.column < self.columns {
-            let place = self.row * self.columns + self.column;
+        let columns = self.size.columns();
+        if self.column < columns {
+            let place = self.row * columns + self.column;
             self.cells[place] = byte;
             self.column += 1;
         }
@@ -77,18 +74,19 @@ impl Terminal {
 
     // Counted from 1, at most to the last; 0 is as 1.
     fn move_to(&mut self, row: usize, column: usize)
-        ensures row { self.new.row ≡ min (max row 1) self.old.rows - 1 }
-        ensures column { self.new.column ≡ min (max column 1) self.old.columns - 1 }
+        ensures row { self.new.row ≡ min (max row 1) self.old.size.rows - 1 }
+        ensures column { self.new.column ≡ min (max column 1) self.old.size.columns - 1 }
         ensures cells { self.new.cells ≡ self.old.cells }
     {
-        self.row = row.max(1).min(self.rows) - 1;
-        self.column = column.max(1).min(self.columns).saturating_sub(1);
+        self.row = row.max(1).min(self.size.rows()) - 1;
+        self.column = column.max(1).min(self.size.columns()) - 1;
     }
 
     fn clear_rest(&mut self) {
-        let start = self.row * self.columns;
+        let columns = self.size.columns();
+        let start = self.row * columns;
         let from = start + self.column;
-        let to = start + self.columns;
+        let to = start + columns;
         self.cells[from..to].fill(b' ');
     }
 

@@ -4,4 +4,4 @@ use Rattle.plain_terminal.proofs.terminal.Terminal.write.Goals as goal
 
 pub index_mut-requires : goal.index_mut-requires
 index_mut-requires c =
-    omega (arith, row_within c.args.self.now.row c.args.self.now.columns c.args.self.now.rows (omega arith))
+    grind (arith, row_within c.args.self.now.row c.args.self.now.size.columns c.args.self.now.size.rows (omega arith))
