@@ -1,10 +1,12 @@
 //! The words of a command line, the files that they name, and why a program refuses them.
 #![tactic(auto)]
 
+mod files;
 mod refusal;
 #[cfg(test)]
 mod tests;
 mod words;
 
+pub use files::{ended, read_file, write_output};
 pub use refusal::Refusal;
-pub use words::{Words, read_file, screen_size};
+pub use words::{Words, screen_size};

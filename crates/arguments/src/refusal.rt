@@ -1,39 +1,20 @@
 //! Why a program ends without having done its work.
-use std::alloc::{AllocError, AllocFailed};
-use std::fmt;
+use std::alloc::AllocError;
+use thiserror::Error;
 
-#[derive(Drop)]
+#[derive(Debug, Drop, Error)]
 pub enum Refusal {
     // how the program is called
+    #[error("usage: {0}")]
     Usage(&'static str),
+    #[error("can't read {0}")]
     Unreadable(String),
+    #[error("ROWS is a number from 2 to 9999")]
     Rows,
+    #[error("COLS is a number from 1 to 9999")]
     Columns,
-    OutOfMemory,
+    #[error("out of memory")]
+    OutOfMemory(#[from(alloc)] AllocError),
+    #[error("can't write the output")]
     Unwritable,
-}
-
-impl fmt::Display for Refusal {
-    fn fmt<W: fmt::Write>(&self, f: &mut fmt::Formatter<W>) -> fmt::Result {
-        match self {
-            Refusal::Usage(words) => write!(f, "usage: {words}"),
-            Refusal::Unreadable(name) => write!(f, "can't read {name}"),
-            Refusal::Rows => write!(f, "ROWS is a number from 2 to 9999"),
-            Refusal::Columns => write!(f, "COLS is a number from 1 to 9999"),
-            Refusal::OutOfMemory => write!(f, "out of memory"),
-            Refusal::Unwritable => write!(f, "can't write the output"),
-        }
-    }
-}
-
-impl From<AllocError> for Refusal {
-    fn from(_error: AllocError) -> Refusal {
-        Refusal::OutOfMemory
-    }
-}
-
-impl<T: Drop> From<AllocFailed<T>> for Refusal {
-    fn from(_error: AllocFailed<T>) -> Refusal {
-        Refusal::OutOfMemory
-    }
 }

@@ -1,11 +1,10 @@
 //! The words behind a program's name, one after the other.
-ghost use Rattle.std.specs.Prelude.{◌≤◌, IfSome, IfOk};
+ghost use Rattle.std.specs.Prelude.{◌≤◌, IfSome};
 
 use crate::refusal::Refusal;
+use plain_lines::Size;
+use std::env;
 use std::vec::IntoIter;
-use std::{env, fs};
-
-const MOST: usize = 9_999;
 
 #[derive(Drop)]
 pub struct Words {
@@ -32,10 +31,7 @@ impl Words {
     }
 
     pub fn take(&mut self) -> Result<String, Refusal> {
-        match self.rest.next() {
-            Some(word) => Ok(word),
-            None => Err(Refusal::Usage(self.usage)),
-        }
+        self.rest.next().ok_or(Refusal::Usage(self.usage))
     }
 
     // There must be no more.
@@ -50,28 +46,13 @@ impl Words {
 fn number(word: &str, least: usize) -> Option<usize>
     ensures { IfSome result (λ n. (least ≤ n) × (n ≤ 9999)) }
 {
-    match word.parse::<usize>() {
-        Ok(n) if least <= n && n <= MOST => Some(n),
-        _ => None,
-    }
+    let number = word.parse::<usize>().ok()?;
+    Some(number).filter(|n| (least..=Size::MOST).contains(n))
 }
 
 // Rows and columns of a screen.
-pub fn screen_size(rows: &str, columns: &str) -> Result<(usize, usize), Refusal>
-    ensures { IfOk result (λ s. (2 ≤ s.0) × (s.0 ≤ 9999) × (1 ≤ s.1) × (s.1 ≤ 9999)) }
-{
-    let Some(rows) = number(rows, 2) else {
-        return Err(Refusal::Rows);
-    };
-    let Some(columns) = number(columns, 1) else {
-        return Err(Refusal::Columns);
-    };
-    Ok((rows, columns))
-}
-
-pub fn read_file(rt: &HostRuntime, name: String) -> Result<Vec<u8>, Refusal> {
-    match fs::read(rt, name.as_str()) {
-        Ok(bytes) => Ok(bytes),
-        Err(_) => Err(Refusal::Unreadable(name)),
-    }
+pub fn screen_size(rows: &str, columns: &str) -> Result<Size, Refusal> {
+    let rows = number(rows, 2).ok_or(Refusal::Rows)?;
+    let columns = number(columns, 1).ok_or(Refusal::Columns)?;
+    Ok(Size::new(rows, columns).unwrap())
 }

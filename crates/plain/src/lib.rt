@@ -11,5 +11,4 @@ mod operators;
 mod screen;
 
 pub use editor::Editor;
-pub use plain_lines::Size;
-pub use screen::Position;
+pub use plain_lines::{Position, Size};

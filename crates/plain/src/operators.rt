@@ -5,6 +5,7 @@ use crate::editor::{Editor, Register};
 use plain_keys::{Extent, Operator, Shape};
 use std::alloc::AllocError;
 
+// Kept: `extent.to` within the text is in four contracts: a type for it would borrow the text, which these functions change.
 impl Editor {
     // Where a motion can't be done there is nothing that is taken.
     pub(crate) fn operate(

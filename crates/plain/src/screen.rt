@@ -2,17 +2,10 @@
 ghost use Rattle.std.specs.Prelude.{◌≡◌, ◌+◌, ◌<◌, ◌≤◌, IfOk, vec_len};
 
 use crate::editor::Editor;
-use plain_lines::Size;
+use plain_lines::{Position, Size};
 use std::alloc::AllocError;
 
 const CANCEL: u8 = 0x18;
-
-// A row and a column of the screen, counted from 0.
-#[derive(Clone, Copy)]
-pub struct Position {
-    pub row: usize,
-    pub column: usize,
-}
 
 fn shown(byte: u8) -> u8
     ensures { (32 ≤ result) × (result ≤ 126) }
@@ -35,10 +28,7 @@ impl Editor {
         ensures row { result.row + 1 < self.now.window.size.rows }
         ensures column { result.column < self.now.window.size.columns }
     {
-        Position {
-            row: self.window.cursor_row,
-            column: self.window.cursor_column,
-        }
+        self.window.cursor
     }
 
     // A row of the screen, as wide as it.

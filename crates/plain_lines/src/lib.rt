@@ -6,4 +6,4 @@ mod window;
 mod words;
 
 pub use text::Place;
-pub use window::{Size, Window};
+pub use window::{Position, Size, Window};

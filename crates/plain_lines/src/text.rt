@@ -1,11 +1,12 @@
 //! A text as lines: where they begin and end, and where the cursor may stand.
 //! Lines and columns are counted from 0.
-ghost use Rattle.std.specs.Prelude.{◌≡◌, ℕ, ◌==◌, ◌+◌, ◌-◌, ◌<◌, ◌≤◌, length, take, count_by, IfSome, MatchOption, ◌≢◌, slice_index};
+ghost use Rattle.std.specs.Prelude.{◌≡◌, ◌==◌, ◌+◌, ◌-◌, ◌<◌, ◌≤◌, length, take, count_by, IfSome, MatchOption, slice_index};
+ghost use Rattle.plain_lines.specs.Lines.{IsWithinLine};
 
 // How many bytes are before the first line end.
 fn line_length(bytes: &[u8]) -> usize
     ensures within { result ≤ length bytes.now }
-    ensures inside { (k : ℕ) → k < result → slice_index bytes.now k ≢ 10 }
+    ensures inside { IsWithinLine bytes.now 0 result }
     ensures ended { result < length bytes.now → slice_index bytes.now result ≡ 10 }
 {
     let first = bytes.iter().position(|byte| *byte == b'\n');
@@ -37,7 +38,7 @@ impl<'a> Place<'a> {
     pub fn line_start(self) -> Place<'a>
         ensures text { result.text.now ≡ self.entry.text.now }
         ensures within { result.at ≤ self.entry.at }
-        ensures inside { (k : ℕ) → result.at ≤ k → k < self.entry.at → slice_index self.entry.text.now k ≢ 10 }
+        ensures inside { IsWithinLine self.entry.text.now result.at self.entry.at }
         ensures before { 0 < result.at → slice_index self.entry.text.now (result.at - 1) ≡ 10 }
     {
         let before = &self.text[..self.at];
@@ -49,7 +50,7 @@ impl<'a> Place<'a> {
     pub fn line_end(self) -> Place<'a>
         ensures text { result.text.now ≡ self.entry.text.now }
         ensures behind { self.entry.at ≤ result.at }
-        ensures inside { (k : ℕ) → self.entry.at ≤ k → k < result.at → slice_index self.entry.text.now k ≢ 10 }
+        ensures inside { IsWithinLine self.entry.text.now self.entry.at result.at }
         ensures ended { result.at < length self.entry.text.now → slice_index self.entry.text.now result.at ≡ 10 }
     {
         self.to(self.at + line_length(&self.text[self.at..]))
@@ -67,7 +68,7 @@ impl<'a> Place<'a> {
     // How many bytes of its line are before it.
     pub fn column(self) -> usize
         ensures within { result ≤ self.entry.at }
-        ensures inside { (k : ℕ) → self.entry.at - result ≤ k → k < self.entry.at → slice_index self.entry.text.now k ≢ 10 }
+        ensures inside { IsWithinLine self.entry.text.now (self.entry.at - result) self.entry.at }
         ensures before { result < self.entry.at → slice_index self.entry.text.now (self.entry.at - result - 1) ≡ 10 }
     {
         self.at - self.line_start().at
@@ -78,7 +79,7 @@ impl<'a> Place<'a> {
         ensures text { result.text.now ≡ self.entry.text.now }
         ensures before { result.at ≤ self.entry.at }
         ensures near { self.entry.at ≤ result.at + count }
-        ensures inside { (k : ℕ) → result.at ≤ k → k < self.entry.at → slice_index self.entry.text.now k ≢ 10 }
+        ensures inside { IsWithinLine self.entry.text.now result.at self.entry.at }
         ensures full { self.entry.at < result.at + count → 0 < result.at → slice_index self.entry.text.now (result.at - 1) ≡ 10 }
     {
         self.to(self.at - count.min(self.column()))
@@ -89,7 +90,7 @@ impl<'a> Place<'a> {
         ensures text { result.text.now ≡ self.entry.text.now }
         ensures behind { self.entry.at ≤ result.at }
         ensures near { result.at ≤ self.entry.at + count }
-        ensures inside { (k : ℕ) → self.entry.at ≤ k → k < result.at → slice_index self.entry.text.now k ≢ 10 }
+        ensures inside { IsWithinLine self.entry.text.now self.entry.at result.at }
         ensures full { result.at < self.entry.at + count → result.at < length self.entry.text.now → slice_index self.entry.text.now result.at ≡ 10 }
     {
         self.to(self.at.saturating_add(count).min(self.line_end().at))
@@ -98,10 +99,10 @@ impl<'a> Place<'a> {
     // The beginning of the next line, if there is one.
     pub fn next_line(self) -> Option<Place<'a>>
         ensures { MatchOption result
-            ((k : ℕ) → self.entry.at ≤ k → k < length self.entry.text.now → slice_index self.entry.text.now k ≢ 10)
+            (IsWithinLine self.entry.text.now self.entry.at (length self.entry.text.now))
             (λ p. (p.text.now ≡ self.entry.text.now) × (self.entry.at < p.at)
             × (slice_index self.entry.text.now (p.at - 1) ≡ 10)
-            × ((k : ℕ) → self.entry.at ≤ k → k < p.at - 1 → slice_index self.entry.text.now k ≢ 10)) }
+            × IsWithinLine self.entry.text.now self.entry.at (p.at - 1)) }
     {
         let end = self.line_end();
         if end.at < self.text.len() {

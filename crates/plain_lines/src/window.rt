@@ -1,8 +1,6 @@
 //! The part of the text that is seen: how large it is, and where it begins.
 ghost use Rattle.std.specs.Prelude.{◌≡◌, ◌+◌, ◌<◌, ◌≤◌, MatchOption};
 
-const MOST: usize = 9_999;
-
 // Rows, of which the last one shows the status, and columns.
 #[derive(Clone, Copy)]
 pub struct Size {
@@ -13,12 +11,15 @@ pub struct Size {
 }
 
 impl Size {
+    // Of rows, and of columns.
+    pub const MOST: usize = 9_999;
+
     pub fn new(rows: usize, columns: usize) -> Option<Size>
         ensures { MatchOption result
             ((2 ≤ rows) → (rows ≤ 9999) → (1 ≤ columns) → (columns ≤ 9999) → ⊥)
             (λ s. (s.rows ≡ rows) × (s.columns ≡ columns)) }
     {
-        if rows < 2 || rows > MOST || columns < 1 || columns > MOST {
+        if rows < 2 || rows > Size::MOST || columns < 1 || columns > Size::MOST {
             return None;
         }
         Some(Size { rows, columns })
@@ -57,36 +58,41 @@ fn scrolled(first: usize, shown: usize, at: usize) -> usize
     }
 }
 
-// The first line and column that are seen, and where the cursor is among those that are.
+// A row and a column of the screen, counted from 0.
+#[derive(Clone, Copy)]
+pub struct Position {
+    pub row: usize,
+    pub column: usize,
+}
+
+// The first line and column that are seen, and where the cursor is on the screen.
 #[derive(Clone, Copy)]
 pub struct Window {
     pub size: Size,
     pub top: usize,
     pub left: usize,
-    pub cursor_row: usize,
-    pub cursor_column: usize,
-    ghost in_sight: { (cursor_row + 1 < size.rows) × (cursor_column < size.columns) },
+    pub cursor: Position,
+    ghost in_sight: { (cursor.row + 1 < size.rows) × (cursor.column < size.columns) },
 }
 
 impl Window {
     pub fn new(size: Size) -> Window
         ensures first { (result.top ≡ 0) × (result.left ≡ 0) }
-        ensures cursor { (result.cursor_row ≡ 0) × (result.cursor_column ≡ 0) }
+        ensures cursor { (result.cursor.row ≡ 0) × (result.cursor.column ≡ 0) }
         ensures size { result.size ≡ size }
     {
         Window {
             size,
             top: 0,
             left: 0,
-            cursor_row: 0,
-            cursor_column: 0,
+            cursor: Position { row: 0, column: 0 },
         }
     }
 
     // Moves as little as it must to show a line and a column.
     pub fn follow(self, line: usize, column: usize) -> Window
-        ensures row { result.top + result.cursor_row ≡ line }
-        ensures column { result.left + result.cursor_column ≡ column }
+        ensures row { result.top + result.cursor.row ≡ line }
+        ensures column { result.left + result.cursor.column ≡ column }
         ensures size { result.size ≡ self.size }
     {
         let size = self.size;
@@ -96,8 +102,10 @@ impl Window {
             size,
             top,
             left,
-            cursor_row: line - top,
-            cursor_column: column - left,
+            cursor: Position {
+                row: line - top,
+                column: column - left,
+            },
         }
     }
 }

@@ -32,10 +32,6 @@ fn begins_word(before: u8, byte: u8) -> bool {
     (before == b'\n' && byte == b'\n') || is_outermost(byte, before)
 }
 
-fn ends_word(byte: u8, behind: u8) -> bool {
-    is_outermost(byte, behind)
-}
-
 impl<'a> Place<'a> {
     // Where the next word begins, or the text's end if there is none.
     fn next_beginning(self) -> Place<'a>
@@ -71,7 +67,7 @@ impl<'a> Place<'a> {
         }
         let first = self.text[self.at + 1..]
             .array_windows::<2>()
-            .position(|[byte, behind]| ends_word(*byte, *behind));
+            .position(|[byte, behind]| is_outermost(*byte, *behind));
         self.to(first.map_or(last, |pair| self.at + 1 + pair))
     }
 

@@ -10,7 +10,7 @@ const MOST: usize = 9_999;
 pub enum Action {
     Write(u8),
     // to a row and a column counted from 1
-    // Kept: 0 stands for a number left out too: both mean 1, and an Option would ask twice for one case.
+    // Kept: 0 stands for a number left out too: both mean 1, and an Option would make two cases of one.
     Move(usize, usize),
     ClearRest,
     Nothing,
@@ -35,19 +35,14 @@ fn read_control(bytes: &[u8]) -> Option<(Action, &[u8])>
     ensures { IfSome result (λ p. length p.1.now < length bytes.now) }
 {
     let (row, rest) = read_number(bytes);
+    let (column, rest) = match rest {
+        [b';', second @ ..] => read_number(second),
+        _ => (0, rest),
+    };
     match rest {
         [] => None,
-        [b'H', behind @ ..] => Some((Action::Move(row, 0), behind)),
+        [b'H', behind @ ..] => Some((Action::Move(row, column), behind)),
         [b'K', behind @ ..] => Some((Action::ClearRest, behind)),
-        [b';', second @ ..] => {
-            let (column, rest) = read_number(second);
-            match rest {
-                [] => None,
-                [b'H', behind @ ..] => Some((Action::Move(row, column), behind)),
-                [b'K', behind @ ..] => Some((Action::ClearRest, behind)),
-                [_, behind @ ..] => Some((Action::Nothing, behind)),
-            }
-        }
         [_, behind @ ..] => Some((Action::Nothing, behind)),
     }
 }

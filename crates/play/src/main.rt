@@ -1,24 +1,18 @@
 //! Plays keys from a file on a text from a file, and writes what the text then is.
 #![tactic(auto)]
 
-use arguments::{Refusal, Words, read_file};
+use arguments::{Refusal, Words, ended, read_file, write_output};
 use plain::{Editor, Size};
-use std::alloc::Global;
-use std::io::Write;
+use std::alloc::{AllocError, Global};
 use std::process::ExitCode;
 
 const USAGE: &str = "play TEXT KEYS";
 
 // The text after all keys, on a screen of 24 rows and 80 columns.
-fn played(heap: Global, text: Vec<u8>, keys: &[u8]) -> Result<Editor, Refusal> {
-    let Some(size) = Size::new(24, 80) else {
-        return Err(Refusal::Rows);
-    };
-    let mut editor = Editor::new(heap, text, size);
+fn played(heap: Global, text: Vec<u8>, keys: &[u8]) -> Result<Editor, AllocError> {
+    let mut editor = Editor::new(heap, text, Size::new(24, 80).unwrap());
     for key in keys {
-        if editor.press(*key).is_err() {
-            return Err(Refusal::OutOfMemory);
-        }
+        editor.press(*key)?;
     }
     Ok(editor)
 }
@@ -31,18 +25,9 @@ fn run(rt: &HostRuntime) -> Result<(), Refusal> {
     let text = read_file(rt, text)?;
     let keys = read_file(rt, keys)?;
     let editor = played(rt.alloc(), text, keys.as_slice())?;
-    if rt.stdout().write_all(editor.text()).is_err() {
-        return Err(Refusal::Unwritable);
-    }
-    Ok(())
+    write_output(rt, editor.text())
 }
 
 fn main(rt: HostRuntime) -> ExitCode {
-    match run(&rt) {
-        Ok(()) => ExitCode::SUCCESS,
-        Err(refusal) => {
-            let _ = eprintln!(rt; "play: {refusal}");
-            ExitCode::FAILURE
-        },
-    }
+    ended(&rt, "play", run(&rt))
 }

@@ -1,24 +1,18 @@
 //! Plays keys from a file on a text from a file, and prints the screen at the beginning and after each.
 #![tactic(auto)]
 
-use arguments::{Refusal, Words, read_file, screen_size};
-use plain::{Editor, Position, Size};
-use std::alloc::Global;
-use std::io::Write;
+use arguments::{Refusal, Words, ended, read_file, screen_size, write_output};
+use plain::{Editor, Position};
+use std::alloc::{AllocError, Global};
 use std::process::ExitCode;
 
 const USAGE: &str = "show TEXT KEYS ROWS COLS";
 
 // The number of keys so far, the rows, and the cursor counted from 1.
-fn screen(heap: Global, editor: &Editor, keys: usize) -> Result<Vec<u8>, Refusal> {
-    let mut out = Vec::new(heap);
-    let head = format!(in heap; "== {keys}\n")?;
-    out.extend_from_slice(head.as_bytes())?;
+fn screen(heap: Global, editor: &Editor, keys: usize) -> Result<Vec<u8>, AllocError> {
+    let mut out = format!(in heap; "== {keys}\n")?.into_bytes();
     for row in 0..editor.size().rows() {
-        let Ok(cells) = editor.row(row) else {
-            return Err(Refusal::OutOfMemory);
-        };
-        out.extend_from_slice(cells.as_slice())?;
+        out.extend_from_slice(editor.row(row)?.as_slice())?;
         out.push(b'\n')?;
     }
     let Position { row, column } = editor.screen_cursor();
@@ -31,18 +25,13 @@ fn screen(heap: Global, editor: &Editor, keys: usize) -> Result<Vec<u8>, Refusal
 
 fn print_screen(rt: &HostRuntime, editor: &Editor, keys: usize) -> Result<(), Refusal> {
     let out = screen(rt.alloc(), editor, keys)?;
-    if rt.stdout().write_all(out.as_slice()).is_err() {
-        return Err(Refusal::Unwritable);
-    }
-    Ok(())
+    write_output(rt, out.as_slice())
 }
 
 fn print_screens(rt: &HostRuntime, mut editor: Editor, keys: &[u8]) -> Result<(), Refusal> {
     print_screen(rt, &editor, 0)?;
     for (before, key) in keys.iter().enumerate() {
-        if editor.press(*key).is_err() {
-            return Err(Refusal::OutOfMemory);
-        }
+        editor.press(*key)?;
         print_screen(rt, &editor, before.saturating_add(1))?;
     }
     Ok(())
@@ -55,21 +44,12 @@ fn run(rt: &HostRuntime) -> Result<(), Refusal> {
     let rows = words.take()?;
     let columns = words.take()?;
     words.end()?;
-    let (rows, columns) = screen_size(rows.as_str(), columns.as_str())?;
-    let Some(size) = Size::new(rows, columns) else {
-        return Err(Refusal::Rows);
-    };
+    let size = screen_size(rows.as_str(), columns.as_str())?;
     let text = read_file(rt, text)?;
     let keys = read_file(rt, keys)?;
     print_screens(rt, Editor::new(rt.alloc(), text, size), keys.as_slice())
 }
 
 fn main(rt: HostRuntime) -> ExitCode {
-    match run(&rt) {
-        Ok(()) => ExitCode::SUCCESS,
-        Err(refusal) => {
-            let _ = eprintln!(rt; "show: {refusal}");
-            ExitCode::FAILURE
-        },
-    }
+    ended(&rt, "show", run(&rt))
 }

@@ -6,4 +6,4 @@ use Rattle.plain_lines.proofs.text.Place.line_end.Goals as goal
 pub returns-clause-inside : goal.returns-clause-inside
 returns-clause-inside c =
     λ k from to e. let same = get_or-drop c.args.self.at c.args.self.text.now (k - c.args.self.at) 0 in
-    c.line_length.ensures.inside (k - c.args.self.at) (omega arith) (grind (arith, common_steps))
+    c.line_length.ensures.inside (k - c.args.self.at) (omega arith) (omega arith) (grind (arith, common_steps))

@@ -1,0 +1,34 @@
+//! What a program reads and writes, and how it ends.
+ghost use Rattle.std.specs.Prelude.{◌≡◌, OnOk, OnErr};
+
+use crate::refusal::Refusal;
+use std::fs;
+use std::io::Write;
+use std::process::ExitCode;
+
+pub fn read_file(rt: &HostRuntime, name: String) -> Result<Vec<u8>, Refusal> {
+    match fs::read(rt, name.as_str()) {
+        Ok(bytes) => Ok(bytes),
+        Err(_) => Err(Refusal::Unreadable(name)),
+    }
+}
+
+pub fn write_output(rt: &HostRuntime, bytes: &[u8]) -> Result<(), Refusal> {
+    rt.stdout()
+        .write_all(bytes)
+        .map_err(|_| Refusal::Unwritable)
+}
+
+// How a program ends, which says what it refuses.
+pub fn ended(rt: &HostRuntime, program: &str, outcome: Result<(), Refusal>) -> ExitCode
+    ensures ok { OnOk outcome (result ≡ ExitCode.SUCCESS) }
+    ensures err { OnErr outcome (result ≡ ExitCode.FAILURE) }
+{
+    match outcome {
+        Ok(()) => ExitCode::SUCCESS,
+        Err(refusal) => {
+            let _ = eprintln!(rt; "{program}: {refusal}");
+            ExitCode::FAILURE
+        }
+    }
+}
