@@ -1,12 +1,9 @@
-use Rattle.std.proofs.Common.{set, ap, ◌∙◌, arith}
-use Rattle.chain.proofs.Storing.{pair_long, pair_share, pair_open, pair_left, pair_right, pair_stored, pair_upper}
+use Rattle.std.proofs.Common.{set, ap, ◌∙◌}
+use Rattle.chain.proofs.Storing.{pair_share, pair_open, pair_left, pair_right, pair_stored, pair_upper}
 use Rattle.chain.proofs.store.Goals as goal
 
 pub share-requires : goal.share-requires
 share-requires g c = pair_share _ _ c.requires
-
-pub set_root-requires : goal.set_root-requires
-set_root-requires g c = record { root = omega arith; long = omega (arith, pair_long _ _ c.requires, c.share.ensures.kept.long) }
 
 pub open-node-requires : goal.open-node-requires
 open-node-requires g c = pair_open _ _ _ _ c.share.ensures.shared c.set_root.ensures.stays c.requires
