@@ -1,8 +1,13 @@
 -- What a picture over another may cost, row by row.
-use Rattle.std.proofs.Common.{◌≡◌, ℕ, suc, ◌+◌, ◌-◌, ◌*◌, ◌<◌, ◌≤◌, min, ◌⊎◌, List, ◌++◌, length, take, drop, ap, ◌∙◌, ⊎_elim, subst, arith, mul-le-mul_right, add-mul, one-mul, zero-mul}
+use Rattle.std.proofs.Common.{[], ◌∷◌, refl, Bool, true, false, cond, not, eqb, Bor, None, inl, inr, fold, rules, ◌≡◌, ℕ, suc, ◌+◌, ◌-◌, ◌*◌, ◌<◌, ◌≤◌, min, ◌⊎◌, List, ◌++◌, length, take, drop, ap, ◌∙◌, ⊎_elim, subst, arith, mul-le-mul_right, add-mul, one-mul, zero-mul}
 use Rattle.std.proofs.Math.Seq.{take-append_seam, drop-append_seam}
 use Rattle.std.proofs.lemmas.List.{length-append}
 use Rattle.std.proofs.lemmas.Bool.{cases_lt}
+use Rattle.std.specs.Iterator.{Yields}
+use Rattle.std.specs.Iterator.Runs.{Run, YieldsRun}
+use Rattle.std.specs.Iterator.Adapters.{zip_first, zip_second, zip_steps}
+use Rattle.std.specs.Slice.Iter.{chunks_rest, chunks_size, chunks_steps}
+use lib.Pointwise.{pointwise}
 use Rattle.spec.specs.Promises.{rows_cost}
 use Rattle.terminals.specs.Progress.{row_cost}
 use Rattle.terminals.proofs.Mixed.{row_same, differs_cost}
@@ -53,11 +58,23 @@ next_row columns rows total y k k' m n old u us new v vs h i j p q z w a b e f =
       counted = omega (arith, h.counted, o, e);
     }
 
-pub differing : (columns k : ℕ) (u v : List ℕ) → (u ≡ v → ⊥) → (k + 1) * (16 + columns) ≡ k * (16 + columns) + row_cost columns u v
-differing columns k u v d = rw (differs_cost columns u v d) (add-mul k 1 (16 + columns) ∙ ap (λ (x : ℕ). k * (16 + columns) + x) (one-mul (16 + columns)))
+-- one more where the two differ
+abbrev pub and_differing : ℕ → Bor (List ℕ) × Bor (List ℕ) → ℕ
+and_differing n x = n + cond (not (pointwise eqb x.0.now x.1.now)) 1 0
 
-pub equal : (columns k : ℕ) (u v : List ℕ) → u ≡ v → k * (16 + columns) ≡ k * (16 + columns) + row_cost columns u v
-equal columns k u v e = rw (e, row_same v) (omega arith)
+more_if : (k m r : ℕ) (same : Bool) → (same ≡ true → r ≡ 0) → (same ≡ false → r ≡ m) → (k + cond (not same) 1 0) * m ≡ k * m + r
+more_if k m r true f g = omega (arith, f refl)
+more_if k m r false f g = add-mul k 1 m ∙ omega (arith, one-mul m, g refl)
+
+costs : (columns k : ℕ) (u v : List ℕ) → (k + cond (not (pointwise eqb u v)) 1 0) * (16 + columns) ≡ k * (16 + columns) + row_cost columns u v
+costs columns k u v =
+    more_if k (16 + columns) (row_cost columns u v) (pointwise eqb u v)
+    (λ (e : pointwise eqb u v ≡ true). let w : u ≡ v = search rules in rw (w, row_same v))
+    (λ (e : pointwise eqb u v ≡ false). let d : u ≡ v → ⊥ = λ (w : u ≡ v). search rules in differs_cost columns u v d)
+
+few_more : (y k : ℕ) (same : Bool) → k ≤ y → k + cond (not same) 1 0 ≤ y + 1
+few_more y k true h = omega arith
+few_more y k false h = omega arith
 
 -- at the end
 none_left : (columns rows y n : ℕ) → 0 < columns → n ≡ (rows - y) * columns → n ≡ 0 → rows - y ≡ 0
@@ -71,3 +88,24 @@ pub all_counted : (columns rows total y k : ℕ) (old new : List ℕ) → 0 < co
 all_counted columns rows total y k old new c h e =
     let z : rows - y ≡ 0 = ⊎_elim (none_left columns rows y (length old) c h.old_left) (none_left columns rows y (length new) c h.new_left) e in
     omega (arith, h.counted, nothing_left columns (rows - y) old new z)
+
+-- Along a run over the chunks of both.
+module _ (columns rows total : ℕ) (c : 0 < columns) where
+  pub counts : (xs : List (Bor (List ℕ) × Bor (List ℕ))) (s t u : _) (y k : ℕ) → Yields (zip_steps chunks_steps chunks_steps) s xs t → zip_steps chunks_steps chunks_steps t None u → chunks_size (zip_first s) ≡ columns → chunks_size (zip_second s) ≡ columns → Counted columns rows total y k (chunks_rest (zip_first s)) (chunks_rest (zip_second s)) → fold and_differing k xs * (16 + columns) ≡ total
+  counts [] s t u y k e n i j h =
+      let z = rw (← e) at n in
+      all_counted columns rows total y k _ _ c h (elim z [ inl w ↦ inl w.1.1.0 | inr w ↦ inr w.1.1.0 ])
+  counts (x ∷ xs) s t u y k e n i j h =
+      let z = e.1 in
+      counts xs e.0 t u (y + 1) (and_differing k x) e.2 n (z.0.0 ∙ i) (z.1.0 ∙ j) (
+      next_row columns rows total y k (and_differing k x) _ _ _ x.0.now _ _ x.1.now _ h i j z.0.1.0 z.1.1.0 z.0.1.2 z.1.1.2 z.0.1.1 z.1.1.1 (costs columns k x.0.now x.1.now) (few_more y k (pointwise eqb x.0.now x.1.now) h.few))
+
+-- and so along a run that went on to the end
+pub counted_by_run : (columns rows total : ℕ) (q : Run (zip_steps chunks_steps chunks_steps)) → 0 < columns → q.whole ≡ true → chunks_size (zip_first q.from) ≡ columns → chunks_size (zip_second q.from) ≡ columns → Counted columns rows total 0 0 (chunks_rest (zip_first q.from)) (chunks_rest (zip_second q.from)) → fold and_differing 0 q.items * (16 + columns) ≡ total
+unfolding YieldsRun
+counted_by_run columns rows total q c w i j h = let d = q.gave.0 in counts columns rows total c q.items q.from d.0 (d.2 w).0 0 0 d.1 (d.2 w).1 i j h
+
+pub begun : (columns rows : ℕ) (old new before after : List ℕ) → old ≡ before → new ≡ after → length before ≡ rows * columns → length after ≡ rows * columns → Counted columns rows (left_cost columns rows before after) 0 0 old new
+begun columns rows old new before after p q a b =
+    let z : rows - 0 ≡ rows = omega arith in
+    record { old_left = rw (z, p) a; new_left = rw (z, q) b; few = omega arith; within = omega arith; counted = rw (z, p, q) (omega arith) }

@@ -41,13 +41,9 @@ impl<'a> Pair<'a> {
     {
         let columns = self.size.columns as usize;
         let rows = self.before.cells.chunks(columns);
-        let mut count = 0;
-        for (old, new) in rows.zip(self.after.cells.chunks(columns)) {
-            if old != new {
-                count += 1;
-            }
-        }
-        count
+        rows.zip(self.after.cells.chunks(columns))
+            .filter(|(old, new)| old != new)
+            .count()
     }
 }
 
