@@ -10,7 +10,7 @@ use term_rows::{
     ByteWriter, LONGEST_MOVE, Output, Position, ROW_EXTRA, shortest_update, write_update,
 };
 
-// Kept: these are handed on as parameters; in a struct with the facts on them as ghost fields the check loses what a row holds once its field is lent (goal `says` of `redraw_row`).
+// Kept: these go on as parameters; in a struct of them, with ghost fields for `pictures` and `buffers`, the goal `stays` of `redraw` didn't close: once the struct has ended, the check knows nothing of what it borrowed.
 /// Sends what turns one row, with the cursor at `at`, and says where the cursor is then. None if there is too little room.
 fn redraw_row<C: Change, W: ByteWriter>(
     change: &mut C,
