@@ -12,7 +12,7 @@ pub const SIZE: Size = Size {
 pub const COLUMNS: usize = SIZE.columns as usize;
 
 /// The rows but the last.
-const TEXT_ROWS: usize = 23;
+const TEXT_ROWS: usize = SIZE.rows as usize - 1;
 
 const LINES: u16 = 60;
 
