@@ -1,5 +1,5 @@
 -- Rows cut from cells.
-use Rattle.std.proofs.Common.{Option, Some, None, Result, IfOk, ◌≡◌, ℕ, zero, suc, ◌+◌, ◌*◌, ◌<◌, ◌≤◌, Bool, true, ◌&&◌, List, [], ◌∷◌, length, get_or, take, drop, sym, refl, ap, ◌∙◌, subst, mul-le-mul_right, add-mul, one-mul, zero-mul, add-one, arith, length-drop}
+use Rattle.std.proofs.Common.{Ok, Err, Option, Some, None, Result, IfOk, ◌≡◌, ℕ, zero, suc, ◌+◌, ◌*◌, ◌<◌, ◌≤◌, Bool, true, ◌&&◌, List, [], ◌∷◌, length, get_or, take, drop, sym, refl, ap, ◌∙◌, subst, mul-le-mul_right, add-mul, one-mul, zero-mul, add-one, arith, length-drop}
 use Rattle.std.specs.List.{AllByRecursion, list_all}
 use Rattle.std.specs.Option.{ok_or}
 use Rattle.std.proofs.lemmas.List.{drop-drop, length-take-le}
@@ -7,6 +7,7 @@ use Rattle.std.proofs.ByRecursion.{All-get_or, All-take, All-drop}
 use Rattle.std.proofs.lemmas.Bool.{and_parts}
 use Rattle.spec.specs.Bytes.{is_printable}
 use Rattle.spec.specs.Screen.{Row, Picture}
+use Rattle.spec.specs.Promises.{paint_cost}
 use Rattle.terminals.specs.Sequences.{Printable}
 use Rattle.terminals.specs.Drawing.{Rectangle, Drawable}
 use Rattle.terminals.specs.Painting.{RepaintDone, RepaintSays}
@@ -79,3 +80,7 @@ repaint_measured rows columns n other after o bs k e d = subst (λ (x : ℕ). Re
 pub repaint_ok : {E : Type 0} (rows columns n : ℕ) (other : List ℕ) (after : Picture) (o : ℕ) (bs : List ℕ) (e : E) (r : Option ℕ) (q : Result ℕ E) → q ≡ ok_or r e → n ≡ columns → RepaintSays (length (rows_of rows columns other)) n after o bs r → IfOk q (λ k. RepaintDone rows columns after o bs k)
 repaint_ok rows columns n other after o bs e (Some k) q h w d = rw h (repaint_measured rows columns n other after o bs k w d)
 repaint_ok rows columns n other after o bs e None q h w d = rw h tt
+
+pub repaint_refused : {E : Type 0} (rows columns n : ℕ) (other : List ℕ) (after : Picture) (o : ℕ) (bs : List ℕ) (e : E) (r : Option ℕ) (q : Result ℕ E) → q ≡ ok_or r e → n ≡ columns → RepaintSays (length (rows_of rows columns other)) n after o bs r → q ≡ Err e → o < paint_cost rows columns
+repaint_refused rows columns n other after o bs e (Some k) q h w d z = let y : Ok k ≡ Err e = sym h ∙ z in absurd (cc)
+repaint_refused rows columns n other after o bs e None q h w d z = subst (λ (x : ℕ). o < paint_cost x columns) (height_of rows columns other) (subst (λ (x : ℕ). o < paint_cost (length (rows_of rows columns other)) x) w d)

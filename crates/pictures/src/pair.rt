@@ -1,10 +1,10 @@
 //! Two pictures of one size, and what is sent for them.
-ghost use Rattle.std.specs.Prelude.{◌≡◌, ℕ, ◌+◌, ◌*◌, ◌<◌, ◌≤◌, List, [], length, take, drop, ◌↔◌, IsOk, IfOk, ⊤};
+ghost use Rattle.std.specs.Prelude.{◌≡◌, ℕ, ◌+◌, ◌*◌, ◌<◌, ◌≤◌, List, [], length, take, drop, ◌↔◌, IsOk, IfOk, IfErr, IsErrOf, ⊤};
 ghost use Rattle.terminals.specs.Progress.{RedrawDone};
 ghost use Rattle.terminals.specs.Painting.{RepaintDone};
 ghost use Rattle.term.specs.Scene.{Scene};
 ghost use Rattle.pictures.specs.Shots.{shown, IsShown};
-ghost use Rattle.spec.specs.Promises.{rows_cost, cost};
+ghost use Rattle.spec.specs.Promises.{rows_cost, cost, paint_cost};
 
 use crate::shot::{Fault, Size, Snapshot, valid};
 use term::{Change, Position, redraw, repaint};
@@ -22,6 +22,7 @@ struct Pair<'a> {
 impl<'a> Pair<'a> {
     fn new(size: Size, before: Snapshot<'a>, after: Snapshot<'a>) -> Result<Pair<'a>, Fault>
         ensures shown { IsOk result ↔ (IsShown size before.entry × IsShown size after.entry) }
+        ensures fault { IfErr result (λ e. e ≡ Fault.NoPicture) }
         ensures holds { IfOk result (λ p. (p.size ≡ size) × (p.before.cells.now ≡ before.entry.cells.now) × (p.before.cursor ≡ before.entry.cursor) × (p.after.cells.now ≡ after.entry.cells.now) × (p.after.cursor ≡ after.entry.cursor)) }
     {
         if !valid(size, before) || !valid(size, after) {
@@ -99,7 +100,9 @@ pub fn draw<'a>(
     new: &mut [u8],
     out: &mut [u8],
 ) -> Result<usize, Fault>
-    ensures { IfOk result (λ n. RedrawDone (shown size before.entry) (shown size after.entry) size.columns (length out.old) out.new n) }
+    ensures no_picture { IsErrOf result Fault.NoPicture → ¬ (IsShown size before.entry × IsShown size after.entry × (length old.old ≡ size.columns) × (length new.old ≡ size.columns)) }
+    ensures no_room { IsErrOf result Fault.NoRoom → length out.old < cost size.columns (shown size before.entry) (shown size after.entry) }
+    ensures done { IfOk result (λ n. RedrawDone (shown size before.entry) (shown size after.entry) size.columns (length out.old) out.new n) }
 {
     let columns = size.columns as usize;
     let mut pair = Pair::new(size, before, after)?;
@@ -111,7 +114,9 @@ pub fn draw<'a>(
 
 /// What makes a terminal show a picture, at the front of `out`. `new` is room for a row.
 pub fn paint(size: Size, after: Snapshot, new: &mut [u8], out: &mut [u8]) -> Result<usize, Fault>
-    ensures { IfOk result (λ n. RepaintDone size.rows size.columns (shown size after.entry) (length out.old) out.new n) }
+    ensures no_picture { IsErrOf result Fault.NoPicture → ¬ (IsShown size after.entry × (length new.old ≡ size.columns)) }
+    ensures no_room { IsErrOf result Fault.NoRoom → length out.old < paint_cost size.rows size.columns }
+    ensures done { IfOk result (λ n. RepaintDone size.rows size.columns (shown size after.entry) (length out.old) out.new n) }
 {
     let mut pair = Pair::new(size, after, after)?;
     if new.len() != size.columns as usize {
@@ -123,6 +128,7 @@ pub fn paint(size: Size, after: Snapshot, new: &mut [u8], out: &mut [u8]) -> Res
 /// The most bytes that lead from one picture to another: 32 and, for each row that differs, 16 and the width.
 pub fn bound<'a>(size: Size, before: Snapshot<'a>, after: Snapshot<'a>) -> Result<usize, Fault>
     ensures shown { IsOk result ↔ (IsShown size before.entry × IsShown size after.entry) }
+    ensures fault { IfErr result (λ e. e ≡ Fault.NoPicture) }
     ensures cost { IfOk result (λ n. n ≡ cost size.columns (shown size before.entry) (shown size after.entry)) }
 {
     let pair = Pair::new(size, before, after)?;
