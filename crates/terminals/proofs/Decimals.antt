@@ -1,6 +1,6 @@
 -- Numbers up to 9,999 in decimal, digit by digit.
-use Rattle.std.proofs.Common.{◌≡◌, ℕ, ◌+◌, ◌/◌, ◌%◌, ◌<◌, ◌≤◌, cond, leb, List, [], ◌∷◌, ◌++◌, length, ap, ◌∙◌, ⊎_elim, arith}
-use Rattle.std.proofs.lemmas.Bool.{lt-ltb, le-ltb, le-leb, lt-leb, cases_lt}
+use Rattle.std.proofs.Common.{◌≡◌, ℕ, ◌+◌, ◌/◌, ◌%◌, ◌<◌, ◌≤◌, List, [], ◌∷◌, length, ⊎_elim, arith}
+use Rattle.std.proofs.lemmas.Bool.{lt-ltb, le-ltb, cases_lt}
 use Rattle.spec.specs.Screen.{digits_before, decimal}
 use Rattle.spec.specs.Terminal.{more_number}
 
@@ -30,41 +30,6 @@ decimal_four n h k =
     let c : 10 ≤ n / 10 / 10 = omega arith in
     let d : n / 10 / 10 / 10 < 10 = omega arith in
     rw (le-ltb n 10 a, le-ltb (n / 10) 10 b, le-ltb (n / 10 / 10) 10 c, lt-ltb (n / 10 / 10 / 10) 10 d)
-
--- the same, where each digit but the last may be left out
-abbrev pub digit_from : ℕ → ℕ → ℕ → List ℕ
-digit_from low n d = cond (leb low n) (d ∷ []) []
-
-pub digit_there : (low n d : ℕ) → low ≤ n → digit_from low n d ≡ d ∷ []
-digit_there low n d h = rw (le-leb low n h)
-
-pub digit_left_out : (low n d : ℕ) → n < low → digit_from low n d ≡ []
-digit_left_out low n d h = rw (lt-leb low n h)
-
-pub decimal_parts : (n : ℕ) → n ≤ 9999 → decimal n ≡ digit_from 1000 n (n / 10 / 10 / 10 % 10 + 48) ++ (digit_from 100 n (n / 10 / 10 % 10 + 48) ++ (digit_from 10 n (n / 10 % 10 + 48) ++ ((n % 10 + 48) ∷ [])))
-decimal_parts n h =
-    ⊎_elim
-    (λ (a : n < 10). rw (digit_left_out 1000 n (n / 10 / 10 / 10 % 10 + 48) (omega arith), digit_left_out 100 n (n / 10 / 10 % 10 + 48) (omega arith), digit_left_out 10 n (n / 10 % 10 + 48) a) (decimal_one n a ∙ ap (λ (x : ℕ). x ∷ []) (omega arith)))
-    (λ (a : 10 ≤ n). ⊎_elim
-    (λ (b : n < 100).
-    let x : 48 + n / 10 ≡ n / 10 % 10 + 48 = omega arith in
-    let y : 48 + n % 10 ≡ n % 10 + 48 = omega arith in
-    rw (digit_left_out 1000 n (n / 10 / 10 / 10 % 10 + 48) (omega arith), digit_left_out 100 n (n / 10 / 10 % 10 + 48) b, digit_there 10 n (n / 10 % 10 + 48) a, decimal_two n a b, x, y))
-    (λ (b : 100 ≤ n). ⊎_elim
-    (λ (c : n < 1000).
-    let x : 48 + n / 10 / 10 ≡ n / 10 / 10 % 10 + 48 = omega arith in
-    let y : 48 + n / 10 % 10 ≡ n / 10 % 10 + 48 = omega arith in
-    let z : 48 + n % 10 ≡ n % 10 + 48 = omega arith in
-    rw (digit_left_out 1000 n (n / 10 / 10 / 10 % 10 + 48) c, digit_there 100 n (n / 10 / 10 % 10 + 48) b, digit_there 10 n (n / 10 % 10 + 48) a, decimal_three n b c, x, y, z))
-    (λ (c : 1000 ≤ n).
-    let w : 48 + n / 10 / 10 / 10 ≡ n / 10 / 10 / 10 % 10 + 48 = omega arith in
-    let x : 48 + n / 10 / 10 % 10 ≡ n / 10 / 10 % 10 + 48 = omega arith in
-    let y : 48 + n / 10 % 10 ≡ n / 10 % 10 + 48 = omega arith in
-    let z : 48 + n % 10 ≡ n % 10 + 48 = omega arith in
-    rw (digit_there 1000 n (n / 10 / 10 / 10 % 10 + 48) c, digit_there 100 n (n / 10 / 10 % 10 + 48) b, digit_there 10 n (n / 10 % 10 + 48) a, decimal_four n c (omega arith), w, x, y, z))
-    (cases_lt n 1000))
-    (cases_lt n 100))
-    (cases_lt n 10)
 
 -- digits that make a number m of a number n, as a terminal reads them
 abbrev pub Digits : List ℕ → ℕ → ℕ → Type 0

@@ -1,16 +1,8 @@
 -- Where two rows end in the same cells, and where a row ends in blanks.
-use Rattle.std.proofs.Common.{◌≡◌, ℕ, suc, ◌+◌, ◌-◌, ◌<◌, ◌≤◌, ◌∷◌, length, get_or, drop, replicate, sym, ap, ◌∙◌, ⊎_elim, arith}
-use Rattle.std.proofs.lemmas.List.{drop_more, drop_all, get_or-drop, get_or-replicate}
+use Rattle.std.proofs.Common.{◌≡◌, ℕ, ◌+◌, ◌-◌, ◌<◌, ◌≤◌, length, get_or, drop, replicate, sym, ap, ◌∙◌, ⊎_elim, arith}
+use Rattle.std.proofs.lemmas.List.{get_or-drop, get_or-replicate}
 use Rattle.std.proofs.lemmas.Bool.{cases_lt}
 use Rattle.spec.specs.Screen.{Row, blank}
-
--- one cell more
-pub same_end_more : (xs ys : Row) (e : ℕ) → 0 < e → e ≤ length xs → length xs ≡ length ys → drop e xs ≡ drop e ys → get_or xs (e - 1) 0 ≡ get_or ys (e - 1) 0 → drop (e - 1) xs ≡ drop (e - 1) ys
-same_end_more xs ys e z l s h k =
-    let q : e - 1 + 1 ≡ e = omega arith in
-    let u : drop (e - 1) xs ≡ get_or xs (e - 1) 0 ∷ drop (e - 1 + 1) xs = drop_more xs (e - 1) 0 (omega arith) in
-    let v : drop (e - 1) ys ≡ get_or ys (e - 1) 0 ∷ drop (e - 1 + 1) ys = drop_more ys (e - 1) 0 (omega arith) in
-    cc
 
 -- the same end begins behind a cell that differs
 pub end_behind : (xs ys : Row) (e k : ℕ) → 0 < e → (get_or xs (e - 1) 0 ≡ get_or ys (e - 1) 0 → ⊥) → drop k xs ≡ drop k ys → e ≤ k
@@ -31,14 +23,6 @@ end_past xs ys a k d h =
     let r : a + 1 ≤ k = end_behind xs ys (a + 1) k (omega arith) (rw q d) h in
     omega arith
 
--- blanks, one more
-pub blanks_more : (xs : Row) (e : ℕ) → 0 < e → e ≤ length xs → drop e xs ≡ replicate (length xs - e) blank → get_or xs (e - 1) 0 ≡ blank → drop (e - 1) xs ≡ replicate (length xs - (e - 1)) blank
-blanks_more xs e z l h k =
-    let q : e - 1 + 1 ≡ e = omega arith in
-    let n : length xs - (e - 1) ≡ suc (length xs - e) = omega arith in
-    let u : drop (e - 1) xs ≡ get_or xs (e - 1) 0 ∷ drop (e - 1 + 1) xs = drop_more xs (e - 1) 0 (omega arith) in
-    rw (n, u, q, h, k)
-
 -- the blanks begin behind a cell that is none
 pub blanks_behind : (xs : Row) (e k : ℕ) → 0 < e → e ≤ length xs → (get_or xs (e - 1) 0 ≡ blank → ⊥) → drop k xs ≡ replicate (length xs - k) blank → e ≤ k
 blanks_behind xs e k z l d h =
@@ -48,8 +32,3 @@ blanks_behind xs e k z l d h =
     absurd (d (ap (λ (i : ℕ). get_or xs i 0) (sym q) ∙ sym (get_or-drop k xs (e - 1 - k) 0) ∙ ap (λ (r : Row). get_or r (e - 1 - k) 0) h ∙ get_or-replicate (length xs - k) (e - 1 - k) blank 0 (omega arith))))
     (λ (o : e ≤ k). o)
     (cases_lt k e)
-
-pub no_blanks : (xs : Row) (e : ℕ) → e ≡ length xs → drop e xs ≡ replicate (length xs - e) blank
-no_blanks xs e h =
-    let q : length xs - e ≡ 0 = omega arith in
-    rw (q, drop_all e xs (omega arith))
