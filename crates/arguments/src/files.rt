@@ -7,10 +7,7 @@ use std::io::Write;
 use std::process::ExitCode;
 
 pub fn read_file(rt: &HostRuntime, name: String) -> Result<Vec<u8>, Refusal> {
-    match fs::read(rt, name.as_str()) {
-        Ok(bytes) => Ok(bytes),
-        Err(_) => Err(Refusal::Unreadable(name)),
-    }
+    fs::read(rt, name.as_str()).map_err(|_| Refusal::Unreadable(name))
 }
 
 pub fn write_output(rt: &HostRuntime, bytes: &[u8]) -> Result<(), Refusal> {

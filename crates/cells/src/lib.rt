@@ -1,6 +1,8 @@
 //! Immutable cells with counts in a row of words.
 #![tactic(auto)]
 
+// Kept: cells named by their numbers where a program with a heap would have boxes, since all that the editor keeps lies in one row of counted words.
+
 mod cell;
 mod content;
 mod header;

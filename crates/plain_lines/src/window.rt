@@ -2,6 +2,7 @@
 ghost use Rattle.std.specs.Prelude.{◌≡◌, ◌+◌, ◌<◌, ◌≤◌, MatchOption};
 
 // Rows, of which the last one shows the status, and columns.
+// Kept: a size and a position of its own, as `pictures` and `term_rows` have theirs, since the second editor shares no code with the first.
 #[derive(Clone, Copy)]
 pub struct Size {
     rows: usize,

@@ -11,6 +11,7 @@ use std::marker::Model;
 /// The count of touches stops here.
 const MOST_TOUCHES: u64 = 9223372036854775807;
 
+// Kept: a size beside the vector, which has only the words up to the last that was written: those behind take no memory.
 #[derive(Drop)]
 pub struct HeapWords {
     items: Vec<u32>,
