@@ -1,5 +1,5 @@
 //! Sharing a reference and letting it go.
-ghost use Rattle.std.specs.Prelude.{◌≡◌, ℕ, ◌+◌, ◌*◌, ◌<◌, ◌≤◌, length};
+ghost use Rattle.std.specs.Prelude.{◌≡◌, ℕ, ◌+◌, ◌*◌, ◌<◌, ◌≤◌, length, IfNone, MatchOption};
 ghost use Rattle.cells.specs.Layout.{at, put, with_dead};
 ghost use Rattle.cells.specs.Steps.{Kept, Sharing, Shared, Holding, Released};
 
@@ -42,6 +42,20 @@ pub fn release<W: Words>(words: &mut W, p: Ref)
             push_dead(words, p);
         }
     }
+}
+
+/// What was made; where nothing was, `held` is let go.
+pub fn or_release<T, W: Words>(words: &mut W, made: Option<T>, held: Ref) -> Option<T>
+    requires { IfNone made (Holding (W.Words.row words.old) held.0) }
+    ensures value { result ≡ made }
+    ensures released { MatchOption result (Released (W.Words.row words.old) (W.Words.row words.new) held.0) (λ _. W.Words.row words.new ≡ W.Words.row words.old) }
+    ensures kept { Kept (W.Words.row words.old) (W.Words.row words.new) }
+    ensures touches { MatchOption result (W.touched words.new ≤ W.touched words.old + 5) (λ _. W.touched words.new ≡ W.touched words.old) }
+{
+    if made.is_none() {
+        release(words, held);
+    }
+    made
 }
 
 /// One less in the count of `p`, and how many are left.

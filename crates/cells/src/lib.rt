@@ -14,7 +14,7 @@ mod reading;
 pub use cell::{NONE, Ref};
 pub use content::Data;
 pub use header::{attach, new, root, scalar, set_root, set_scalar};
-pub use holding::{release, share};
+pub use holding::{or_release, release, share};
 pub use laws::{cells_are_counted, held_have_trees, longer_row_holds, no_cell_is_lost};
 pub use making::{Children, Node, alloc, make, open, part, release_both};
 pub use reading::{data_word, data_words, left, right};

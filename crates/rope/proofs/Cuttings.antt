@@ -1,5 +1,5 @@
 -- The steps of cutting a leaf, and of joining a part with what was beside it.
-use Rattle.std.proofs.Common.{◌≡◌, ℕ, ◌+◌, ◌≤◌, List, ◌∷◌, length, take, drop, Some, None, Option, refl, ap, ◌∙◌, sym, subst, arith, length-drop, length-take}
+use Rattle.std.proofs.Common.{◌≡◌, ℕ, ◌+◌, ◌≤◌, MatchOption, List, ◌∷◌, length, take, drop, Some, None, Option, refl, ap, ◌∙◌, sym, subst, arith, length-drop, length-take}
 use Rattle.cells.specs.declared.cell.Ref.{Ref}
 use Rattle.cells.specs.Tree.{Tree}
 use Rattle.cells.specs.Have.{Item, item, all_nodes}
@@ -32,16 +32,15 @@ module _ {m : List ℕ} {l r q : ℕ} where
   beside_two x = record { u = x.u; v = x.v; rest = item q (code x.w) ∷ x.rest; fit = x.fit; have = x.have; few = omega (arith, x.few) }
 
   module _ {m1 : List ℕ} {n n1 : ℕ} where
-    pub joins_beside : {d : Ref} → Joins Any concat concat_price 1 m m1 l r 128 (Some d) n n1 → JoinsBeside m m1 l r q (Some d) n n1
-    joins_beside j = record { have = λ x. (j.runs (beside_two x)).have; full = λ x e. absurd cc; cost = λ x. omega (arith, (j.runs (beside_two x)).cost) }
-
-    pub joins_none : {m2 : List ℕ} {n2 : ℕ} → Joins Any concat concat_price 1 m m1 l r 128 None n n1 → Released m1 m2 q → n2 ≤ n1 + 5 → JoinsBeside m m2 l r q None n n2
-    joins_none j gone drops =
+    pub joins_beside : {m2 : List ℕ} {n2 : ℕ} (d : Option Ref) → Joins Any concat concat_price 1 m m1 l r 128 d n n1 → MatchOption d (Released m1 m2 q) (λ _. m2 ≡ m1) → MatchOption d (n2 ≤ n1 + 5) (λ _. n2 ≡ n1) → JoinsBeside m m2 l r q d n n2
+    joins_beside None j gone drops =
         record {
           have = λ x. gone.have _ _ (j.runs (beside_two x)).have;
           full = λ x _. omega (arith, (j.runs (beside_two x)).full refl, nodes_code x.w);
-          cost = λ x. omega (arith, (j.runs (beside_two x)).cost);
+          cost = λ x. omega (arith, drops, (j.runs (beside_two x)).cost);
         }
+    joins_beside (Some d) j same reads =
+        record { have = λ x. rw same (j.runs (beside_two x)).have; full = λ x e. absurd cc; cost = λ x. omega (arith, reads, (j.runs (beside_two x)).cost) }
 
 -- a part that was joined, where it was, as the back or the front of a cut
 abbrev pub with_front : Ref → Option Ref → Option Cut

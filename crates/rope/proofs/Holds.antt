@@ -1,5 +1,5 @@
 -- References that are held: reordering them, and reading what they refer to.
-use Rattle.std.proofs.Common.{◌≡◌, ℕ, ◌+◌, ◌<◌, ◌≤◌, List, ◌∷◌, length, Some, None, Option, refl, arith}
+use Rattle.std.proofs.Common.{◌≡◌, ℕ, ◌+◌, ◌<◌, ◌≤◌, IfNone, List, ◌∷◌, length, Some, None, Option, refl, arith}
 use Rattle.cells.specs.declared.cell.Ref.{Ref}
 use Rattle.cells.specs.Tree.{Tree}
 use Rattle.cells.specs.Have.{Item, item, Have, opt, all_nodes}
@@ -40,6 +40,11 @@ holding h = record { tree = _; rest = _; have = h }
 pub after_by : {m m1 m' : List ℕ} {d : Option Ref} {t t' : Rope} {rest : List Item} {most most' n limit limit' : ℕ} → After m1 m' d t rest most n limit → length m1 ≡ length m → t' ≡ t → most ≤ most' → limit ≤ limit'
     → After m m' d t' rest most' n limit'
 after_by a long is le low = record { have = rw is a.have; full = λ e. omega (arith, a.full e); cost = omega (arith, a.cost) }
+
+-- where nothing was made, what was held beside it still is
+pub none_held : {m m' : List ℕ} {d : Option Ref} {t : Rope} {p : ℕ} {v : Tree} {rest : List Item} {most n limit : ℕ} → After m m' d t (item p v ∷ rest) most n limit → IfNone d (Holding m' p)
+none_held {d = None} a = holding a.have
+none_held {d = Some x} a = tt
 
 -- nothing was made, and what was held beside it was let go
 pub after_release : {m m1 m2 m' : List ℕ} {t t' : Rope} {p : ℕ} {v : Tree} {rest : List Item} {most most' n n' limit limit' : ℕ} → After m1 m2 None t (item p v ∷ rest) most n limit → Released m2 m' p → n' ≤ n + 5 → length m1 ≡ length m

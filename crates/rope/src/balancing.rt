@@ -7,7 +7,7 @@ ghost use Rattle.rope.specs.Building.{Two, Joins, Peak, Doubles, Leaning, Near};
 use crate::making::node_on;
 use crate::parting::halve;
 use crate::sided::Side;
-use cells::{Ref, release, release_both};
+use cells::{Ref, or_release, release_both};
 use rope_cells::shapes_of;
 use words::Words;
 
@@ -22,10 +22,8 @@ fn rotate_double<W: Words>(words: &mut W, side: Side, a: Ref, b: Ref, c: Ref) ->
         release_both(words, second, c);
         return None;
     };
-    let Some(y) = node_on(words, side, second, c) else {
-        release(words, x);
-        return None;
-    };
+    let y = node_on(words, side, second, c);
+    let y = or_release(words, y, x)?;
     node_on(words, side, x, y)
 }
 
@@ -40,10 +38,8 @@ fn rotate<W: Words>(words: &mut W, side: Side, a: Ref, b: Ref) -> Option<Ref>
     if shapes.first.height > shapes.second.height {
         return rotate_double(words, side, a, first, second);
     }
-    let Some(x) = node_on(words, side, a, first) else {
-        release(words, second);
-        return None;
-    };
+    let x = node_on(words, side, a, first);
+    let x = or_release(words, x, second)?;
     node_on(words, side, x, second)
 }
 

@@ -5,7 +5,7 @@ ghost use Rattle.rope.specs.Cutting.{One, Sized, Short, cut_price, Cuts, Splits,
 
 use crate::joining::concat;
 use crate::making::leaves;
-use cells::{NONE, Ref, part, release};
+use cells::{NONE, Ref, or_release, part, release};
 use rope_cells::{Bytes, left_sum, len, read_leaf, shape_of};
 use words::Words;
 
@@ -22,11 +22,8 @@ fn concat_beside<W: Words>(words: &mut W, left: Ref, right: Ref, held: Ref) -> O
     ensures joins { JoinsBeside (W.Words.row words.old) (W.Words.row words.new) left.0 right.0 held.0 result (W.touched words.old) (W.touched words.new) }
     ensures kept { Kept (W.Words.row words.old) (W.Words.row words.new) }
 {
-    let Some(joined) = concat(words, left, right) else {
-        release(words, held);
-        return None;
-    };
-    Some(joined)
+    let joined = concat(words, left, right);
+    or_release(words, joined, held)
 }
 
 /// A leaf cut inside.

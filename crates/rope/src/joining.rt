@@ -11,7 +11,7 @@ use crate::making::node_on;
 use crate::merging::merge;
 use crate::parting::halve;
 use crate::sided::Side;
-use cells::{Ref, release};
+use cells::{Ref, or_release};
 use rope_cells::{Shape, shapes_of};
 use words::Words;
 
@@ -38,10 +38,8 @@ fn attach<W: Words>(words: &mut W, side: Side, host: Ref, guest: Ref, levels: u3
         return node_on(words, side, host, guest);
     }
     let (first, second) = halve(words, side, host);
-    let Some(inner) = attach(words, side, second, guest, levels - 1) else {
-        release(words, first);
-        return None;
-    };
+    let inner = attach(words, side, second, guest, levels - 1);
+    let inner = or_release(words, inner, first)?;
     balance(words, side, first, inner)
 }
 

@@ -10,7 +10,7 @@ ghost use Rattle.rope.specs.Cutting.{Leaves};
 
 use crate::cutting::Cut;
 use crate::sided::Side;
-use cells::{Data, NONE, Node, Ref, make, release};
+use cells::{Data, NONE, Node, Ref, make, or_release};
 use rope_cells::{node_data, pack, summary_of};
 use words::Words;
 
@@ -75,9 +75,7 @@ pub fn leaves<W: Words>(words: &mut W, front: &[u8], back: &[u8]) -> Option<Cut>
     ensures kept { Kept (W.Words.row words.old) (W.Words.row words.new) }
 {
     let front = leaf(words, front)?;
-    let Some(back) = leaf(words, back) else {
-        release(words, front);
-        return None;
-    };
+    let back = leaf(words, back);
+    let back = or_release(words, back, front)?;
     Some(Cut { front, back })
 }

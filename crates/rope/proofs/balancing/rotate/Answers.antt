@@ -1,5 +1,5 @@
 use Rattle.std.proofs.Common.{arith}
-use Rattle.rope.proofs.Holds.{holding}
+use Rattle.rope.proofs.Holds.{none_held}
 use Rattle.rope.proofs.Rotates.{lean_opening, lean_first, lean_second, Turned, lean_peak, lean_doubled, lean_single, lean_released, lean_last, lean_rotated}
 use Rattle.rope.proofs.balancing.rotate.Given.{Over}
 use Rattle.rope.proofs.balancing.rotate.Goals.{After-shapes_of-shapes}
@@ -37,26 +37,30 @@ returns-then-shapes-clause-joins g c =
     let last = rw c.shapes_of-shapes.ensures.same at c.rotate_double.ensures.doubles in
     lean_doubled (turned g (goal.at.returns-then-shapes-clause-joins g c).After-shapes_of-shapes) c.if-shapes.true last
 
+pub node_on-x-requires : goal.node_on-x-requires
+node_on-x-requires g c = rw c.shapes_of-shapes.ensures.same (lean_single (turned g (goal.at.node_on-x-requires g c).After-shapes_of-shapes) c.requires)
+
+pub or_release-requires : goal.or_release-requires
+or_release-requires g c =
+    let one = rw c.shapes_of-shapes.ensures.same at c.node_on-x.ensures.joins in
+    none_held (one.runs (lean_single (turned g (goal.at.or_release-requires g c).After-shapes_of-shapes) c.requires))
+
+pub returns-in_err-x-clause-joins : goal.returns-in_err-x-clause-joins
+returns-in_err-x-clause-joins g c =
+    let gone = c.in_err-x.ensures in
+    let one = rw (c.shapes_of-shapes.ensures.same, ← gone.value) at c.node_on-x.ensures.joins in
+    rw c.from_residual.ensures (lean_released (turned g (goal.at.returns-in_err-x-clause-joins g c).After-shapes_of-shapes) one gone.released gone.touches)
+
 pub node_on-requires : goal.node_on-requires
-node_on-requires g c = rw c.shapes_of-shapes.ensures.same (lean_single (turned g (goal.at.node_on-requires g c).After-shapes_of-shapes) c.requires)
-
-pub release-requires : goal.release-requires
-release-requires g c =
-    let one = rw c.shapes_of-shapes.ensures.same at c.in_default.ensures.joins in
-    holding (one.runs (lean_single (turned g (goal.at.release-requires g c).After-shapes_of-shapes) c.requires)).have
-
-pub returns-in_default-clause-joins : goal.returns-in_default-clause-joins
-returns-in_default-clause-joins g c =
-    let one = rw c.shapes_of-shapes.ensures.same at c.in_default.ensures.joins in
-    lean_released (turned g (goal.at.returns-in_default-clause-joins g c).After-shapes_of-shapes) one c.release.ensures.released c.release.ensures.touches
-
-pub node_on-requires-2 : goal.node_on-requires-2
-node_on-requires-2 g c =
-    let one = rw c.shapes_of-shapes.ensures.same at c.in-Some.ensures.joins in
-    lean_last (turned g (goal.at.node_on-requires-2 g c).After-shapes_of-shapes) c.if-shapes.false one c.requires
+node_on-requires g c =
+    let kept = c.in_ok-x.ensures in
+    let one = rw (c.shapes_of-shapes.ensures.same, ← kept.value) at c.node_on-x.ensures.joins in
+    rw kept.released (lean_last (turned g (goal.at.node_on-requires g c).After-shapes_of-shapes) c.if-shapes.false one c.requires)
 
 pub returns-clause-joins : goal.returns-clause-joins
 returns-clause-joins g c =
-    let one = rw c.shapes_of-shapes.ensures.same at c.in-Some.ensures.joins in
-    let long = rw c.shapes_of-shapes.ensures.same at c.in-Some.ensures.kept.long in
-    lean_rotated (turned g (goal.at.returns-clause-joins g c).After-shapes_of-shapes) c.if-shapes.false one c.node_on-2.ensures.joins long
+    let kept = c.in_ok-x.ensures in
+    let one = rw (c.shapes_of-shapes.ensures.same, ← kept.value) at c.node_on-x.ensures.joins in
+    let long = rw c.shapes_of-shapes.ensures.same at c.node_on-x.ensures.kept.long in
+    let two = rw (kept.released, kept.touches) at c.node_on.ensures.joins in
+    lean_rotated (turned g (goal.at.returns-clause-joins g c).After-shapes_of-shapes) c.if-shapes.false one two long

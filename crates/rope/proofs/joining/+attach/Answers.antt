@@ -1,5 +1,5 @@
 use Rattle.std.proofs.Common.{ℕ, sym, ◌∙◌, arith}
-use Rattle.rope.proofs.Holds.{holding}
+use Rattle.rope.proofs.Holds.{none_held}
 use Rattle.rope.proofs.Makings.{two_ordered, joins_on, first_some, second_some, as_fit}
 use Rattle.rope.proofs.Attaches.{Apart, leaves_swap, guest_low, onto_leaves, attached_leaf, attached_node, host_opening, host_levels, inner_two, outer_two, attached_inside, attached_none, host_one, host_view, beside_is}
 use Rattle.rope.proofs.joining.+attach.Given.{Over}
@@ -61,23 +61,30 @@ apart g t c =
 pub overflow_sub-levels : goal.overflow_sub-levels
 overflow_sub-levels g t c = host_levels (apart g t (goal.at.overflow_sub-levels g t c).After-halve) c.requires
 
-pub attach-requires : goal.attach-requires
-attach-requires g t c κs within =
-    let i = apart g t (goal.at.attach-requires g t c).After-halve in
+pub attach-inner-requires : goal.attach-inner-requires
+attach-inner-requires g t c κs within =
+    let i = apart g t (goal.at.attach-inner-requires g t c).After-halve in
     let some = host_levels i c.requires in
     (omega (arith, c.decreases), (within, inner_two i c.requires))
 
+pub or_release-requires : goal.or_release-requires
+or_release-requires g t c = none_held (c.attach-inner.ensures.joins.runs (inner_two (apart g t (goal.at.or_release-requires g t c).After-halve) c.requires))
+
+pub returns-in_err-inner-clause-joins : goal.returns-in_err-inner-clause-joins
+returns-in_err-inner-clause-joins g t c =
+    let gone = c.in_err-inner.ensures in
+    let none = rw (← gone.value) at c.attach-inner.ensures.joins in
+    rw c.from_residual.ensures (attached_none (apart g t (goal.at.returns-in_err-inner-clause-joins g t c).After-halve) none gone.released gone.touches)
+
 pub balance-requires : goal.balance-requires
-balance-requires g t c = outer_two (apart g t (goal.at.balance-requires g t c).After-halve) c.in-Some.ensures.joins c.requires
-
-pub release-requires : goal.release-requires
-release-requires g t c = holding (c.in_default.ensures.joins.runs (inner_two (apart g t (goal.at.release-requires g t c).After-halve) c.requires)).have
-
-pub returns-in_default-clause-joins : goal.returns-in_default-clause-joins
-returns-in_default-clause-joins g t c =
-    attached_none (apart g t (goal.at.returns-in_default-clause-joins g t c).After-halve) c.in_default.ensures.joins c.release.ensures.released c.release.ensures.touches
+balance-requires g t c =
+    let kept = c.in_ok-inner.ensures in
+    let inner = rw (← kept.value) at c.attach-inner.ensures.joins in
+    rw kept.released (outer_two (apart g t (goal.at.balance-requires g t c).After-halve) inner c.requires)
 
 pub returns-clause-joins : goal.returns-clause-joins
 returns-clause-joins g t c =
-    let inner = c.in-Some.ensures in
-    attached_inside (apart g t (goal.at.returns-clause-joins g t c).After-halve) inner.joins c.balance.ensures.joins inner.kept.long
+    let kept = c.in_ok-inner.ensures in
+    let inner = rw (← kept.value) at c.attach-inner.ensures.joins in
+    let last = rw (kept.released, kept.touches) at c.balance.ensures.joins in
+    attached_inside (apart g t (goal.at.returns-clause-joins g t c).After-halve) inner last c.attach-inner.ensures.kept.long
