@@ -1,9 +1,9 @@
 -- The steps of cutting a leaf, and of joining a part with what was beside it.
-use Rattle.std.proofs.Common.{◌≡◌, ℕ, ◌+◌, ◌≤◌, MatchOption, List, ◌∷◌, length, take, drop, Some, None, Option, refl, ap, ◌∙◌, sym, subst, arith, length-drop, length-take}
+use Rattle.std.proofs.Common.{◌≡◌, ℕ, ◌+◌, ◌≤◌, IfNone, MatchOption, List, ◌∷◌, length, take, drop, Some, None, Option, refl, ap, ◌∙◌, sym, subst, arith, length-drop, length-take}
 use Rattle.cells.specs.declared.cell.Ref.{Ref}
 use Rattle.cells.specs.Tree.{Tree}
 use Rattle.cells.specs.Have.{Item, item, all_nodes}
-use Rattle.cells.specs.Steps.{Released}
+use Rattle.cells.specs.Steps.{Holding, Released}
 use Rattle.ropes.specs.Rope.{Rope, leaf, size, cells, Whole}
 use Rattle.ropes.specs.Join.{concat}
 use Rattle.ropes.specs.Cut.{front, back}
@@ -14,12 +14,17 @@ use Rattle.rope_cells.proofs.Codes.{nodes_code}
 use Rattle.rope.specs.declared.cutting.Cut.{Cut}
 use Rattle.rope.specs.Building.{Two, Joins, Any, concat_price, Free}
 use Rattle.rope.specs.Cutting.{AfterCut, One, LeafCut, Beside, JoinsBeside, Leaves}
-use Rattle.rope.proofs.Holds.{swap_have, lends}
+use Rattle.rope.proofs.Holds.{swap_have, holding, lends}
 
 -- what a call cut, told of what was there before
 pub after_cut_by : {m m1 m' : List ℕ} {d : Option Cut} {f f' b b' : Rope} {rest : List Item} {most most' n limit limit' : ℕ} → AfterCut m1 m' d f b rest most n limit → length m1 ≡ length m → f' ≡ f → b' ≡ b → most ≤ most' → limit ≤ limit'
     → AfterCut m m' d f' b' rest most' n limit'
 after_cut_by a long is_f is_b le low = record { have = rw (is_f, is_b) a.have; full = λ e. omega (arith, a.full e); cost = omega (arith, a.cost) }
+
+-- where nothing was cut, what was held beside it still is
+pub none_cut_held : {m m' : List ℕ} {d : Option Cut} {f b : Rope} {p : ℕ} {v : Tree} {rest : List Item} {most n limit : ℕ} → AfterCut m m' d f b (item p v ∷ rest) most n limit → IfNone d (Holding m' p)
+none_cut_held {d = None} a = holding a.have
+none_cut_held {d = Some x} a = tt
 
 -- nothing was cut, and what was held beside it was let go
 pub after_cut_release : {m m1 m2 m' : List ℕ} {f f' b b' : Rope} {p : ℕ} {v : Tree} {rest : List Item} {most most' n n' limit limit' : ℕ} → AfterCut m1 m2 None f b (item p v ∷ rest) most n limit → Released m2 m' p → n' ≤ n + 5

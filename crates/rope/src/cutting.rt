@@ -62,25 +62,15 @@ fn split_sized<W: Words>(words: &mut W, rope: Ref, size: u32, at: u32) -> Option
     let middle = left_sum::<Bytes, W>(words, rope);
     let children = part(words, rope);
     if at < middle {
-        let Some(cut) = split_sized(words, children.left, middle, at) else {
-            release(words, children.right);
-            return None;
-        };
+        let cut = split_sized(words, children.left, middle, at);
+        let cut = or_release(words, cut, children.right)?;
         let back = concat_beside(words, cut.back, children.right, cut.front)?;
-        Some(Cut {
-            front: cut.front,
-            back,
-        })
+        Some(Cut { back, ..cut })
     } else {
-        let Some(cut) = split_sized(words, children.right, size - middle, at - middle) else {
-            release(words, children.left);
-            return None;
-        };
+        let cut = split_sized(words, children.right, size - middle, at - middle);
+        let cut = or_release(words, cut, children.left)?;
         let front = concat_beside(words, children.left, cut.front, cut.back)?;
-        Some(Cut {
-            front,
-            back: cut.back,
-        })
+        Some(Cut { front, ..cut })
     }
 }
 

@@ -1,6 +1,5 @@
 use Rattle.std.proofs.Common.{◌<◌, ◌≤◌, ℕ, Some, None, refl, arith}
-use Rattle.rope.proofs.Holds.{holding}
-use Rattle.rope.proofs.Cuttings.{after_cut_by}
+use Rattle.rope.proofs.Cuttings.{after_cut_by, none_cut_held}
 use Rattle.rope.proofs.Splits.{cuts_zero, cuts_all, sized_some, sized_lends, sized_leaf, sized_view, sized_children, sized_opening, sized_middle, Inside, middle_bounds, left_one, left_beside, left_joined, left_none, right_one, right_beside, right_joined, right_none}
 use Rattle.rope.specs.declared.sided.Side.TheVariants.{Right}
 use Rattle.rope.proofs.Partings.{halved_on}
@@ -64,63 +63,78 @@ inside g t c =
       cost = omega (arith, sh.touches, mid.touches, h.touches);
     }
 
-pub split_sized-requires : goal.split_sized-requires
-split_sized-requires g t c κs within =
-    let i = inside g t (goal.at.split_sized-requires g t c).After-part-children in
+pub split_sized-cut-requires : goal.split_sized-cut-requires
+split_sized-cut-requires g t c κs within =
+    let i = inside g t (goal.at.split_sized-cut-requires g t c).After-part-children in
     (omega (arith, (middle_bounds i c.requires).1, c.decreases), (within, left_one i c.requires c.if-at-middle.true))
 
-pub release-requires : goal.release-requires
-release-requires g t c = holding (c.in_default.ensures.cuts.runs (left_one (inside g t (goal.at.release-requires g t c).After-part-children) c.requires c.if-at-middle.true)).have
+pub or_release-requires : goal.or_release-requires
+or_release-requires g t c = none_cut_held (c.split_sized-cut.ensures.cuts.runs (left_one (inside g t (goal.at.or_release-requires g t c).After-part-children) c.requires c.if-at-middle.true))
 
-pub returns-in_default-clause-cuts : goal.returns-in_default-clause-cuts
-returns-in_default-clause-cuts g t c =
-    let i = inside g t (goal.at.returns-in_default-clause-cuts g t c).After-part-children in
-    let gone = c.release.ensures in
-    record { runs = λ x. left_none i x c.if-at-middle.true c.in_default.ensures.cuts gone.released gone.touches }
+pub returns-in_err-cut-clause-cuts : goal.returns-in_err-cut-clause-cuts
+returns-in_err-cut-clause-cuts g t c =
+    let i = inside g t (goal.at.returns-in_err-cut-clause-cuts g t c).After-part-children in
+    let gone = c.in_err-cut.ensures in
+    let none = rw (← gone.value) at c.split_sized-cut.ensures.cuts in
+    rw c.from_residual.ensures (record { runs = λ x. left_none i x c.if-at-middle.true none gone.released gone.touches })
 
 pub concat_beside-requires : goal.concat_beside-requires
-concat_beside-requires g t c = left_beside (inside g t (goal.at.concat_beside-requires g t c).After-part-children) c.requires c.if-at-middle.true c.in-Some.ensures.cuts
+concat_beside-requires g t c =
+    let kept = c.in_ok-cut.ensures in
+    let one = rw (← kept.value) at c.split_sized-cut.ensures.cuts in
+    rw kept.released (left_beside (inside g t (goal.at.concat_beside-requires g t c).After-part-children) c.requires c.if-at-middle.true one)
 
 pub returns-in_err-back-clause-cuts : goal.returns-in_err-back-clause-cuts
 returns-in_err-back-clause-cuts g t c =
     let i = inside g t (goal.at.returns-in_err-back-clause-cuts g t c).After-part-children in
-    let one = c.in-Some.ensures in
-    rw c.from_residual.ensures (record { runs = λ x. left_joined i x c.if-at-middle.true one.cuts None c.in_err-back.ensures.joins one.kept.long })
+    let kept = c.in_ok-cut.ensures in
+    let one = rw (← kept.value) at c.split_sized-cut.ensures.cuts in
+    let joins = rw (kept.released, kept.touches) at c.in_err-back.ensures.joins in
+    rw c.from_residual-in_err-back.ensures (record { runs = λ x. left_joined i x c.if-at-middle.true one None joins c.split_sized-cut.ensures.kept.long })
 
 pub returns-in_ok-back-clause-cuts : goal.returns-in_ok-back-clause-cuts
 returns-in_ok-back-clause-cuts g t c =
     let i = inside g t (goal.at.returns-in_ok-back-clause-cuts g t c).After-part-children in
-    let one = c.in-Some.ensures in
-    record { runs = λ x. left_joined i x c.if-at-middle.true one.cuts (Some c.in_ok-back.back) c.in_ok-back.ensures.joins one.kept.long }
+    let kept = c.in_ok-cut.ensures in
+    let one = rw (← kept.value) at c.split_sized-cut.ensures.cuts in
+    let joins = rw (kept.released, kept.touches) at c.in_ok-back.ensures.joins in
+    record { runs = λ x. left_joined i x c.if-at-middle.true one (Some c.in_ok-back.back) joins c.split_sized-cut.ensures.kept.long }
 
-pub split_sized-requires-else-at-middle : goal.split_sized-requires-else-at-middle
-split_sized-requires-else-at-middle g t c κs within =
-    let i = inside g t (goal.at.split_sized-requires-else-at-middle g t c).After-part-children in
+pub split_sized-cut-requires-else-at-middle : goal.split_sized-cut-requires-else-at-middle
+split_sized-cut-requires-else-at-middle g t c κs within =
+    let i = inside g t (goal.at.split_sized-cut-requires-else-at-middle g t c).After-part-children in
     let b = middle_bounds i c.requires in
     (omega (arith, b.0, b.1, c.decreases), (within, right_one i c.requires c.if-at-middle.false))
 
-pub release-requires-in_default-split_sized : goal.release-requires-in_default-split_sized
-release-requires-in_default-split_sized g t c =
-    holding (c.in_default-split_sized.ensures.cuts.runs (right_one (inside g t (goal.at.release-requires-in_default-split_sized g t c).After-part-children) c.requires c.if-at-middle.false)).have
+pub or_release-requires-else-at-middle : goal.or_release-requires-else-at-middle
+or_release-requires-else-at-middle g t c =
+    none_cut_held (c.split_sized-cut-else-at-middle.ensures.cuts.runs (right_one (inside g t (goal.at.or_release-requires-else-at-middle g t c).After-part-children) c.requires c.if-at-middle.false))
 
-pub returns-in_default-split_sized-clause-cuts : goal.returns-in_default-split_sized-clause-cuts
-returns-in_default-split_sized-clause-cuts g t c =
-    let i = inside g t (goal.at.returns-in_default-split_sized-clause-cuts g t c).After-part-children in
-    let gone = c.release-in_default-split_sized.ensures in
-    record { runs = λ x. right_none i x c.if-at-middle.false c.in_default-split_sized.ensures.cuts gone.released gone.touches }
+pub returns-in_err-cut-2-clause-cuts : goal.returns-in_err-cut-2-clause-cuts
+returns-in_err-cut-2-clause-cuts g t c =
+    let i = inside g t (goal.at.returns-in_err-cut-2-clause-cuts g t c).After-part-children in
+    let gone = c.in_err-cut-2.ensures in
+    let none = rw (← gone.value) at c.split_sized-cut-else-at-middle.ensures.cuts in
+    rw c.from_residual-in_err-cut-2.ensures (record { runs = λ x. right_none i x c.if-at-middle.false none gone.released gone.touches })
 
 pub concat_beside-requires-else-at-middle : goal.concat_beside-requires-else-at-middle
 concat_beside-requires-else-at-middle g t c =
-    right_beside (inside g t (goal.at.concat_beside-requires-else-at-middle g t c).After-part-children) c.requires c.if-at-middle.false c.in-Some-split_sized.ensures.cuts
+    let kept = c.in_ok-cut-2.ensures in
+    let one = rw (← kept.value) at c.split_sized-cut-else-at-middle.ensures.cuts in
+    rw kept.released (right_beside (inside g t (goal.at.concat_beside-requires-else-at-middle g t c).After-part-children) c.requires c.if-at-middle.false one)
 
 pub returns-in_err-front-clause-cuts : goal.returns-in_err-front-clause-cuts
 returns-in_err-front-clause-cuts g t c =
     let i = inside g t (goal.at.returns-in_err-front-clause-cuts g t c).After-part-children in
-    let one = c.in-Some-split_sized.ensures in
-    rw c.from_residual-in_err-front.ensures (record { runs = λ x. right_joined i x c.if-at-middle.false one.cuts None c.in_err-front.ensures.joins one.kept.long })
+    let kept = c.in_ok-cut-2.ensures in
+    let one = rw (← kept.value) at c.split_sized-cut-else-at-middle.ensures.cuts in
+    let joins = rw (kept.released, kept.touches) at c.in_err-front.ensures.joins in
+    rw c.from_residual-in_err-front.ensures (record { runs = λ x. right_joined i x c.if-at-middle.false one None joins c.split_sized-cut-else-at-middle.ensures.kept.long })
 
 pub returns-in_ok-front-clause-cuts : goal.returns-in_ok-front-clause-cuts
 returns-in_ok-front-clause-cuts g t c =
     let i = inside g t (goal.at.returns-in_ok-front-clause-cuts g t c).After-part-children in
-    let one = c.in-Some-split_sized.ensures in
-    record { runs = λ x. right_joined i x c.if-at-middle.false one.cuts (Some c.in_ok-front.front) c.in_ok-front.ensures.joins one.kept.long }
+    let kept = c.in_ok-cut-2.ensures in
+    let one = rw (← kept.value) at c.split_sized-cut-else-at-middle.ensures.cuts in
+    let joins = rw (kept.released, kept.touches) at c.in_ok-front.ensures.joins in
+    record { runs = λ x. right_joined i x c.if-at-middle.false one (Some c.in_ok-front.front) joins c.split_sized-cut-else-at-middle.ensures.kept.long }
