@@ -2,7 +2,7 @@
 use Rattle.std.proofs.Common.{◌≡◌, ℕ, ◌+◌, ◌-◌, ◌*◌, ◌/◌, ◌<◌, ◌≤◌, List, ◌∷◌, length, take, drop, Some, None, Option, sym, refl, ap, ◌∙◌, subst, arith, length-drop, length-take}
 use Rattle.cells.specs.declared.cell.Ref.{Ref}
 use Rattle.cells.specs.Have.{item, Have, opt, all_nodes}
-use Rattle.cells.specs.Steps.{Holding, Released}
+use Rattle.cells.specs.Steps.{Released}
 use Rattle.ropes.specs.Rope.{Rope, empty, leaf, size, height, cells, Octets}
 use Rattle.ropes.specs.Rope.{node as node_of}
 use Rattle.ropes.specs.Build.{left_share, from_bytes}
@@ -96,9 +96,6 @@ module _ {b f k : List ℕ} (s : Parted b f k) where
 
       module _ {m2 : List ℕ} (long2 : length m2 ≡ length m1) {n2 : ℕ} where
         module _ (second : Builds m1 m2 k None n1 n2) where
-          pub front_holding : Free m (length b) → Holding m2 p.0
-          front_holding x = record { tree = code (from_bytes f); rest = x.rest; have = (second.runs (free_back x)).have }
-
           pub builds_no_back : {m3 : List ℕ} {n3 : ℕ} → Released m2 m3 p.0 → n3 ≤ n2 + 5 → Runs m m3 b None n n3
           builds_no_back gone drops x =
               let o = first.runs (free_front x) in

@@ -1,5 +1,5 @@
 -- The steps of repeating a rope.
-use Rattle.std.proofs.Common.{◌≡◌, ℕ, zero, suc, ◌+◌, ◌*◌, ◌/◌, ◌%◌, ◌^◌, ◌<◌, ◌≤◌, ◌≢◌, List, ◌∷◌, length, Some, None, Option, sym, refl, ap, subst, suc-mul, mul-le-mul_left, arith}
+use Rattle.std.proofs.Common.{◌≡◌, ℕ, zero, suc, ◌+◌, ◌*◌, ◌/◌, ◌%◌, ◌^◌, ◌<◌, ◌≤◌, ◌≢◌, IfNone, List, ◌∷◌, length, Some, None, Option, sym, refl, ap, subst, suc-mul, mul-le-mul_left, arith}
 use Rattle.std.proofs.lemmas.Bool.{ne_eqb, cond-false}
 use Rattle.cells.specs.declared.cell.Ref.{Ref}
 use Rattle.cells.specs.Have.{item, Have, opt}
@@ -16,7 +16,7 @@ use Rattle.rope_cells.specs.Coded.{code}
 use Rattle.rope_cells.proofs.Codes.{nodes_code}
 use Rattle.rope.specs.Building.{After, Two, Joins, Any, concat_price}
 use Rattle.rope.specs.Cutting.{One}
-use Rattle.rope.proofs.Holds.{swap_have}
+use Rattle.rope.proofs.Holds.{swap_have, none_held}
 use Rattle.rope.proofs.Makings.{some_none}
 use Rattle.rope.proofs.Splits.{add_none}
 use Rattle.rope_edit.specs.Editing.{Copied, copied_most, odd_onto, Adds, Twice, Doubles, Repeats, Times, Repeated}
@@ -157,9 +157,6 @@ module _ {n : ℕ} (many : 2 ≤ n) {m : List ℕ} {l r : ℕ} where
 
   module _ {m1 : List ℕ} (long1 : length m1 ≡ length m) {k k1 : ℕ} where
     module _ (adds : Adds n m m1 l r None k k1) where
-      pub add_holding : Two (Copied n) m l r 200 → Holding m1 r
-      add_holding x = record { tree = code x.v; rest = x.rest; have = (adds.runs (many_two x)).have }
-
       no_add : {m2 : List ℕ} {k2 : ℕ} → Released m1 m2 r → k2 ≤ k1 + 5 → Done n m m2 l r None k k2
       no_add gone drops x zero fits = absurd (omega arith)
       no_add gone drops x (suc steps) fits =
@@ -197,11 +194,11 @@ module _ {n : ℕ} (many : 2 ≤ n) {m : List ℕ} {l r : ℕ} where
             few = omega (arith, x.few, short_low x.v (record { whole = x.fit.right; few = omega (arith, few) }));
           }
 
+      pub start_held : {d : Option Ref} {m2 : List ℕ} {k2 : ℕ} → Doubles m1 m2 r d k1 k2 → Two (Copied n) m l r 200 → IfNone d (Holding m2 s.0)
+      start_held dbl x = none_held (dbl.runs (add_one x))
+
       module _ {m2 : List ℕ} (long2 : length m2 ≡ length m1) {k2 : ℕ} where
         module _ (dbl : Doubles m1 m2 r None k1 k2) where
-          pub start_holding : Two (Copied n) m l r 200 → Holding m2 s.0
-          start_holding x = record { tree = code (odd_onto n x.u x.v); rest = x.rest; have = (dbl.runs (add_one x)).have }
-
           no_double : {m3 : List ℕ} {k3 : ℕ} → Released m2 m3 s.0 → k3 ≤ k2 + 5 → Done n m m3 l r None k k3
           no_double gone drops x zero fits = absurd (omega arith)
           no_double gone drops x (suc steps) fits =

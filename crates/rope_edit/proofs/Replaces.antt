@@ -2,7 +2,7 @@
 use Rattle.std.proofs.Common.{◌≡◌, ℕ, ◌+◌, ◌*◌, ◌<◌, ◌≤◌, max, List, ◌∷◌, length, Some, None, Option, refl, arith, length-drop, length-take}
 use Rattle.cells.specs.declared.cell.Ref.{Ref}
 use Rattle.cells.specs.Have.{item, all_nodes}
-use Rattle.cells.specs.Steps.{Holding, Released}
+use Rattle.cells.specs.Steps.{Released}
 use Rattle.ropes.specs.Rope.{Rope, bytes, size, height, cells}
 use Rattle.ropes.specs.Join.{concat}
 use Rattle.ropes.specs.Cut.{front, back, replace}
@@ -72,9 +72,6 @@ module _ (a b : ℕ) {m : List ℕ} {p q : ℕ} where
   module _ {m1 : List ℕ} (long1 : length m1 ≡ length m) {n n1 : ℕ} where
     -- the rope could not be cut
     module _ (cut : Splits b m m1 p None n n1) where
-      pub replaces_holding : Two Any m p q 200 → Holding m1 q
-      replaces_holding x = record { tree = code x.v; rest = x.rest; have = (cut.runs (replaces_one x)).have }
-
       pub replaces_none : {m2 : List ℕ} {n2 : ℕ} → Released m1 m2 q → n2 ≤ n1 + 5 → Replaces a b m m2 p q None n n2
       replaces_none gone drops =
           record {

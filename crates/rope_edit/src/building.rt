@@ -4,7 +4,7 @@ ghost use Rattle.cells.specs.Steps.{Kept};
 ghost use Rattle.rope.specs.Building.{Free};
 ghost use Rattle.rope_edit.specs.Editing.{Builds};
 
-use cells::{NONE, Ref, release};
+use cells::{NONE, Ref, or_release};
 use rope::{leaf, node};
 use rope_cells::{LEAF_MAX, LEAF_MIN};
 use words::Words;
@@ -40,9 +40,7 @@ pub fn from_bytes<W: Words>(words: &mut W, bytes: &[u8]) -> Option<Ref>
     }
     let (front, back) = bytes.split_at(left_part(bytes.len()));
     let x = from_bytes(words, front)?;
-    let Some(y) = from_bytes(words, back) else {
-        release(words, x);
-        return None;
-    };
+    let y = from_bytes(words, back);
+    let y = or_release(words, y, x)?;
     node(words, x, y)
 }

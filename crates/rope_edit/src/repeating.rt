@@ -5,7 +5,7 @@ ghost use Rattle.rope.specs.Building.{Two, Any};
 ghost use Rattle.rope.specs.Cutting.{One};
 ghost use Rattle.rope_edit.specs.Editing.{Copied, Adds, Twice, Doubles, Repeats, Times, Repeated};
 
-use cells::{NONE, Ref, release, share};
+use cells::{NONE, Ref, or_release, release, share};
 use rope::concat;
 use words::Words;
 
@@ -45,14 +45,10 @@ fn repeat_onto<W: Words>(words: &mut W, before: Ref, t: Ref, n: u32) -> Option<R
     if n == 1 {
         return concat(words, before, t);
     }
-    let Some(start) = add_odd(words, before, t, n) else {
-        release(words, t);
-        return None;
-    };
-    let Some(twice) = double(words, t) else {
-        release(words, start);
-        return None;
-    };
+    let start = add_odd(words, before, t, n);
+    let start = or_release(words, start, t)?;
+    let twice = double(words, t);
+    let twice = or_release(words, twice, start)?;
     repeat_onto(words, start, twice, n / 2)
 }
 

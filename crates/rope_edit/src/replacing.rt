@@ -5,7 +5,7 @@ ghost use Rattle.rope.specs.Building.{Two, Any};
 ghost use Rattle.rope_edit.specs.Editing.{Following, Follows, Replaces};
 
 use crate::slicing::keep_front;
-use cells::{Ref, release};
+use cells::{Ref, or_release};
 use rope::{concat, split};
 use words::Words;
 
@@ -15,10 +15,7 @@ fn concat_onto<W: Words>(words: &mut W, first: Option<Ref>, second: Ref) -> Opti
     ensures follows { Follows (W.Words.row words.old) (W.Words.row words.new) first second.0 result (W.touched words.old) (W.touched words.new) }
     ensures kept { Kept (W.Words.row words.old) (W.Words.row words.new) }
 {
-    let Some(first) = first else {
-        release(words, second);
-        return None;
-    };
+    let first = or_release(words, first, second)?;
     concat(words, first, second)
 }
 
@@ -29,10 +26,8 @@ pub fn replace<W: Words>(words: &mut W, t: Ref, a: u32, b: u32, new: Ref) -> Opt
     ensures kept { Kept (W.Words.row words.old) (W.Words.row words.new) }
     ensures quick { W.touched words.new ≤ W.touched words.old + 30000 }
 {
-    let Some(cut) = split(words, t, b) else {
-        release(words, new);
-        return None;
-    };
+    let cut = split(words, t, b);
+    let cut = or_release(words, cut, new)?;
     let front = keep_front(words, cut.front, a);
     let start = concat_onto(words, front, new);
     concat_onto(words, start, cut.back)

@@ -1,6 +1,7 @@
 use Rattle.std.proofs.Common.{◌≤◌, arith}
 use Rattle.cells.proofs.Sharings.{kept_on}
-use Rattle.rope_edit.proofs.Repeats.{none_holding, repeats_none, once_two, repeats_once, many_two, add_holding, repeats_no_add, add_one, start_holding, repeats_no_double, half_two, repeats_half}
+use Rattle.rope.proofs.Holds.{none_held}
+use Rattle.rope_edit.proofs.Repeats.{start_held, none_holding, repeats_none, once_two, repeats_once, many_two, repeats_no_add, add_one, repeats_no_double, half_two, repeats_half}
 use Rattle.rope_edit.proofs.repeating.+repeat_onto.Goals as goal
 
 pub release-requires : goal.release-requires
@@ -19,56 +20,86 @@ returns-then-n-eq1 g t c =
     let o = c.concat.ensures in
     record { repeats = repeats_once c.if-n-eq1.true o.joins; kept = o.kept }
 
-pub add_odd-requires : goal.add_odd-requires
-add_odd-requires g t c =
+pub add_odd-start-requires : goal.add_odd-start-requires
+add_odd-start-requires g t c =
     let many : 2 ≤ c.args.n = omega arith in
     many_two many c.requires
 
-pub release-requires-in_default : goal.release-requires-in_default
-release-requires-in_default g t c =
+pub or_release-requires : goal.or_release-requires
+or_release-requires g t c =
     let many : 2 ≤ c.args.n = omega arith in
-    let a = c.in_default.ensures in
-    add_holding many a.kept.long a.adds c.requires
+    none_held (c.add_odd-start.ensures.adds.runs (many_two many c.requires))
 
-pub returns-in_default : goal.returns-in_default
-returns-in_default g t c =
+pub returns-in_err-start : goal.returns-in_err-start
+returns-in_err-start g t c =
     let many : 2 ≤ c.args.n = omega arith in
-    let a = c.in_default.ensures in
-    let gone = c.release-in_default.ensures in
-    record { repeats = repeats_no_add many a.kept.long a.adds gone.released gone.touches; kept = kept_on _ _ _ a.kept gone.kept }
+    let a = c.add_odd-start.ensures in
+    let gone = c.in_err-start.ensures in
+    let none = rw (← gone.value) at a.adds in
+    record { repeats = rw c.from_residual.ensures (repeats_no_add many a.kept.long none gone.released gone.touches); kept = kept_on _ _ _ a.kept gone.kept }
 
-pub double-requires : goal.double-requires
-double-requires g t c =
+pub double-twice-requires : goal.double-twice-requires
+double-twice-requires g t c =
     let many : 2 ≤ c.args.n = omega arith in
-    let a = c.in-Some.ensures in
-    add_one many a.kept.long a.adds c.requires
+    let a = c.add_odd-start.ensures in
+    let first = c.in_ok-start.ensures in
+    let adds = rw (← first.value) at a.adds in
+    rw first.released (add_one many a.kept.long adds c.requires)
 
-pub release-requires-in_default-double : goal.release-requires-in_default-double
-release-requires-in_default-double g t c =
+pub or_release-requires-2 : goal.or_release-requires-2
+or_release-requires-2 g t c =
     let many : 2 ≤ c.args.n = omega arith in
-    let a = c.in-Some.ensures in
-    let b = c.in_default-double.ensures in
-    start_holding many a.kept.long a.adds b.kept.long b.doubles c.requires
+    let a = c.add_odd-start.ensures in
+    let first = c.in_ok-start.ensures in
+    let adds = rw (← first.value) at a.adds in
+    let b = c.double-twice.ensures in
+    let twice = rw (first.released, first.touches) at b.doubles in
+    let long = rw first.released at b.kept.long in
+    start_held many a.kept.long adds twice c.requires
 
-pub returns-in_default-double : goal.returns-in_default-double
-returns-in_default-double g t c =
+pub returns-in_err-twice : goal.returns-in_err-twice
+returns-in_err-twice g t c =
     let many : 2 ≤ c.args.n = omega arith in
-    let a = c.in-Some.ensures in
-    let b = c.in_default-double.ensures in
-    let gone = c.release-in_default-double.ensures in
-    record { repeats = repeats_no_double many a.kept.long a.adds b.kept.long b.doubles gone.released gone.touches; kept = kept_on _ _ _ a.kept (kept_on _ _ _ b.kept gone.kept) }
+    let a = c.add_odd-start.ensures in
+    let first = c.in_ok-start.ensures in
+    let adds = rw (← first.value) at a.adds in
+    let b = c.double-twice.ensures in
+    let twice = rw (first.released, first.touches) at b.doubles in
+    let long = rw first.released at b.kept.long in
+    let gone = c.in_err-twice.ensures in
+    let none = rw (← gone.value) at twice in
+    record {
+      repeats = rw c.from_residual-in_err-twice.ensures (repeats_no_double many a.kept.long adds long none gone.released gone.touches);
+      kept = kept_on _ _ _ a.kept (kept_on _ _ _ first.kept (kept_on _ _ _ b.kept gone.kept));
+    }
 
 pub repeat_onto-requires : goal.repeat_onto-requires
 repeat_onto-requires g t c κs within =
     let many : 2 ≤ c.args.n = omega arith in
-    let a = c.in-Some.ensures in
-    let b = c.in-Some-double.ensures in
-    (omega (arith, c.decreases), (within, half_two many a.kept.long a.adds b.kept.long b.doubles c.requires))
+    let a = c.add_odd-start.ensures in
+    let first = c.in_ok-start.ensures in
+    let adds = rw (← first.value) at a.adds in
+    let b = c.double-twice.ensures in
+    let twice = rw (first.released, first.touches) at b.doubles in
+    let long = rw first.released at b.kept.long in
+    let second = c.in_ok-twice.ensures in
+    let doubles = rw (← second.value) at twice in
+    (omega (arith, c.decreases), (within, rw second.released (half_two many a.kept.long adds long doubles c.requires)))
 
 pub returns : goal.returns
 returns g t c =
     let many : 2 ≤ c.args.n = omega arith in
-    let a = c.in-Some.ensures in
-    let b = c.in-Some-double.ensures in
+    let a = c.add_odd-start.ensures in
+    let first = c.in_ok-start.ensures in
+    let adds = rw (← first.value) at a.adds in
+    let b = c.double-twice.ensures in
+    let twice = rw (first.released, first.touches) at b.doubles in
+    let long = rw first.released at b.kept.long in
+    let second = c.in_ok-twice.ensures in
+    let doubles = rw (← second.value) at twice in
     let o = c.repeat_onto.ensures in
-    record { repeats = repeats_half many a.kept.long a.adds b.kept.long b.doubles o.repeats; kept = kept_on _ _ _ a.kept (kept_on _ _ _ b.kept o.kept) }
+    let last = rw (second.released, second.touches) at o.repeats in
+    record {
+      repeats = repeats_half many a.kept.long adds long doubles last;
+      kept = kept_on _ _ _ a.kept (kept_on _ _ _ first.kept (kept_on _ _ _ b.kept (kept_on _ _ _ second.kept o.kept)));
+    }
