@@ -8,7 +8,7 @@ use words::Words;
 #[derive(Clone, Copy, PartialEq, Eq)]
 pub struct Ref(pub(crate) u32);
 
-// Kept: a number for none, since a reference is stored as one counted word, where 0 stands for none; an `Option` would be converted at each read and write of a child.
+// Kept: 0 is the empty tree, a value like any other, and not the lack of one: what is empty is concatenated, cut and read as any rope is, and stored as one counted word; an `Option` would ask each caller for a case that it doesn't have.
 /// Refers to nothing.
 pub const NONE: Ref = Ref(0);
 
@@ -42,7 +42,7 @@ impl Ref {
     }
 }
 
-// Kept: that cell `p` lies within the row stands in each contract below, since a `Ref` is a number that says nothing of a row, and a type for both would have to borrow the row.
+// Kept: that cell `p` lies within the row stands in the contracts of this crate, since a `Ref` is a number that says nothing of a row, and a type for both would have to borrow the row.
 /// Word `k` of cell `p`.
 pub(crate) fn word<W: Words>(words: &mut W, p: Ref, k: usize) -> u32
     requires word { k < 16 }

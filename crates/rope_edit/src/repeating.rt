@@ -23,13 +23,13 @@ fn add_odd<W: Words>(words: &mut W, before: Ref, t: Ref, n: u32) -> Option<Ref>
 }
 
 /// The rope twice.
-fn double<W: Words>(words: &mut W, t: Ref) -> Option<Ref>
-    requires { One Twice (W.Words.row words.old) t.0 160 }
-    ensures doubles { Doubles (W.Words.row words.old) (W.Words.row words.new) t.0 result (W.touched words.old) (W.touched words.new) }
+fn double<W: Words>(words: &mut W, rope: Ref) -> Option<Ref>
+    requires { One Twice (W.Words.row words.old) rope.0 160 }
+    ensures doubles { Doubles (W.Words.row words.old) (W.Words.row words.new) rope.0 result (W.touched words.old) (W.touched words.new) }
     ensures kept { Kept (W.Words.row words.old) (W.Words.row words.new) }
 {
-    share(words, t);
-    concat(words, t, t)
+    share(words, rope);
+    concat(words, rope, rope)
 }
 
 /// The rope `before`, and `t` behind it `n` times.
