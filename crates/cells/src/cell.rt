@@ -8,8 +8,8 @@ use words::Words;
 #[derive(Clone, Copy, PartialEq, Eq)]
 pub struct Ref(pub(crate) u32);
 
-// Kept: 0 is the empty tree, a value like any other, and not the lack of one: what is empty is concatenated, cut and read as any rope is, and stored as one counted word; an `Option` would ask each caller for a case that it doesn't have.
 /// Refers to nothing.
+// Kept: 0 is the empty tree, a value like any other, and not the lack of one: what is empty is concatenated, cut and read as any rope is, and stored as one counted word; an `Option` would ask each caller for a case that it doesn't have.
 pub const NONE: Ref = Ref(0);
 
 /// The cell whose first words are the heap's own.
@@ -42,8 +42,8 @@ impl Ref {
     }
 }
 
-// Kept: that cell `p` lies within the row stands in the contracts of this crate, since a `Ref` is a number that says nothing of a row, and a type for both would have to borrow the row.
 /// Word `k` of cell `p`.
+// Kept: that cell `p` lies within the row stands in the contracts of this crate, since a `Ref` is a number that says nothing of a row, and a type for both would have to borrow the row.
 pub(crate) fn word<W: Words>(words: &mut W, p: Ref, k: usize) -> u32
     requires word { k < 16 }
     requires within { 16 * p.0 + 16 ≤ length (W.Words.row words.old) }

@@ -1,6 +1,6 @@
 //! The data words of a cell.
 ghost use Rattle.std.specs.Prelude.{◌≡◌, ℕ, ◌+◌, ◌*◌, ◌<◌, ◌≤◌, length, drop};
-ghost use Rattle.cells.specs.Layout.{at, cell, put, over};
+ghost use Rattle.cells.specs.Layout.{at, cell, over};
 
 use crate::cell::{DATA, Ref, word, write};
 use words::Words;
@@ -9,6 +9,7 @@ use words::Words;
 pub type Data = [u32; 13];
 
 /// Data word `k` of cell `p`.
+// Kept: apart from `data_word`, as `load` is from `data_words`: these say which words of a cell are read, those what the node of a tree has; one contract for both would have to spell out both.
 pub(crate) fn load_word<W: Words>(words: &mut W, p: Ref, k: usize) -> u32
     requires word { k < 13 }
     requires within { 16 * p.0 + 16 ≤ length (W.Words.row words.old) }

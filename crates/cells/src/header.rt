@@ -1,6 +1,6 @@
 //! The first 8 cells: the heap's own two words, and the state of whoever uses it.
-ghost use Rattle.std.specs.Prelude.{◌≡◌, ℕ, ◌+◌, ◌<◌, ◌≤◌, List, [], length, slice_index, slice_set};
-ghost use Rattle.cells.specs.Layout.{state, roots, fresh, cleared};
+ghost use Rattle.std.specs.Prelude.{◌≡◌, ℕ, ◌+◌, ◌<◌, ◌≤◌, List, length, slice_index, slice_set};
+ghost use Rattle.cells.specs.Layout.{state, roots, cleared};
 ghost use Rattle.cells.specs.Sound.{Sound};
 ghost use Rattle.cells.specs.Have.{Item, refs, Have};
 ghost use Rattle.cells.specs.Steps.{Begun, Stays};
@@ -20,8 +20,8 @@ const HEADER_WORDS: usize = 128;
 /// How many cells the header has.
 const HEADER_CELLS: u32 = 8;
 
-// Kept: that the row is as long as the header stands in each contract below, since the row is whatever implements `Words`, and a type around it would have to be made at each call.
 /// Writes 0 to each word of the header.
+// Kept: that the row is as long as the header stands in each contract below, since the row is whatever implements `Words`, and a type around it would have to be made at each call.
 fn clear<W: Words>(words: &mut W)
     requires { 128 ≤ length (W.Words.row words.old) }
     ensures same { W.Words.row words.new ≡ cleared (W.Words.row words.old) 128 }

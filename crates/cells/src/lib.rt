@@ -2,6 +2,7 @@
 #![tactic(auto)]
 
 // Kept: cells named by their numbers where a program with a heap would have boxes, since all that the editor keeps lies in one row of counted words.
+// Kept: `kept`, `same` and `touches` are clauses of their own: as a field of a record each proof of that record would have to give them besides, while as clauses the check mostly finds them alone.
 
 mod cell;
 mod content;

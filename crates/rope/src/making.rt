@@ -1,9 +1,9 @@
 //! Making nodes and leaves.
 ghost use Rattle.std.specs.Prelude.{◌≡◌, ℕ, ◌+◌, ◌<◌, ◌≤◌, length, IfSome};
 ghost use Rattle.cells.specs.Steps.{Kept};
-ghost use Rattle.ropes.specs.Rope.{Rope, Octets};
+ghost use Rattle.ropes.specs.Rope.{Octets};
 ghost use Rattle.ropes.specs.Rope.{node as node_of};
-ghost use Rattle.ropes.specs.Layout.{node_data as data-of-node};
+ghost use Rattle.ropes.specs.Layout.{node_data as data_of_node};
 ghost use Rattle.rope.specs.Sided.{node_on};
 ghost use Rattle.rope.specs.Building.{Two, Joins, Fit, Free, Leafed};
 ghost use Rattle.rope.specs.Cutting.{Leaves};
@@ -17,7 +17,7 @@ use words::Words;
 /// The data words of a node of two ropes.
 fn data_of<W: Words>(words: &mut W, left: Ref, right: Ref) -> Data
     requires { Two Fit (W.Words.row words.old) left.0 right.0 0 }
-    ensures value { (x : Two Fit (W.Words.row words.old) left.0 right.0 0) → result ≡ data-of-node x.u x.v }
+    ensures value { (x : Two Fit (W.Words.row words.old) left.0 right.0 0) → result ≡ data_of_node x.u x.v }
     ensures same { W.Words.row words.new ≡ W.Words.row words.old }
     ensures touches { W.touched words.new ≤ W.touched words.old + 6 }
 {
@@ -47,6 +47,7 @@ pub fn node_on<W: Words>(words: &mut W, side: Side, first: Ref, second: Ref) -> 
 }
 
 /// A leaf of these bytes.
+// Kept: a leaf's bytes are a slice that is asked to be short, here and where two are made: a type for a leaf would be a copy of bytes that already lie in one piece.
 pub fn leaf<W: Words>(words: &mut W, bytes: &[u8]) -> Option<Ref>
     requires heap { Free (W.Words.row words.old) 0 }
     requires fits { length bytes.now ≤ 48 }
