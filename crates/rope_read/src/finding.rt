@@ -1,5 +1,5 @@
 //! The first and the last byte of a value in a range of a rope, looked for in chunks.
-ghost use Rattle.std.specs.Prelude.{◌≡◌, ℕ, ◌+◌, ◌-◌, ◌*◌, ◌<◌, ◌≤◌, min, length, MatchOption};
+ghost use Rattle.std.specs.Prelude.{◌≡◌, ◌+◌, ◌-◌, ◌*◌, ◌≤◌, min, length, MatchOption};
 ghost use Rattle.rope_cells.specs.Lending.{Lends};
 ghost use Rattle.rope_read.specs.Text.{text};
 ghost use Rattle.rope_read.specs.Finding.{Absent, First, Last};
@@ -33,9 +33,8 @@ fn last_in(chunk: &[u8], byte: u8) -> Option<usize>
     chunk.iter().rposition(|b| *b == byte)
 }
 
-// Kept: `find` and `find_back` stay two loops: each counts its chunks from its own end, as its cost says, and one loop for both would need a trait of two ends with their places, what they find and its laws.
-
 /// The place of the first byte `byte` from place `from` up to place `to`.
+// Kept: `find` and `find_back` stay two loops: one loop would take the chunks' places and the search in a chunk as closures, and would have to state what it finds and what that costs by what the closures promise, which is longer than the second loop.
 pub fn find<W: Words>(words: &mut W, p: Ref, from: u32, to: u32, byte: u8) -> Option<u32>
     requires rope { Lends (W.Words.row words.old) p.0 }
     requires inside { to ≤ length (text (W.Words.row words.old) p.0) }
@@ -63,14 +62,14 @@ pub fn find_back<W: Words>(words: &mut W, p: Ref, from: u32, to: u32, byte: u8) 
     ensures touches { MatchOption result (W.touched words.new ≤ W.touched words.old + 4 * (to - from) + 234) (λ k. W.touched words.new ≤ W.touched words.old + 4 * (to - k) + 234) }
 {
     let mut chunk = [0; CHUNK];
-    let mut end = to;
-    while from < end {
+    for behind in (0..to.saturating_sub(from)).step_by(CHUNK) {
+        let end = to - behind;
         let len = chunk_len(from, end);
+        let at = end - len as u32;
         let part = &mut chunk[..len];
-        end -= len as u32;
-        read(words, p, end, part);
+        read(words, p, at, part);
         if let Some(k) = last_in(part, byte) {
-            return Some(end + k as u32);
+            return Some(at + k as u32);
         }
     }
     None

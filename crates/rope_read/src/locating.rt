@@ -1,5 +1,5 @@
 //! The leaf of a rope in which a sum is reached, with its bytes and what is summed before it.
-ghost use Rattle.std.specs.Prelude.{◌≡◌, ℕ, ◌+◌, ◌<◌, ◌≤◌};
+ghost use Rattle.std.specs.Prelude.{◌≡◌, ◌+◌, ◌≤◌};
 ghost use Rattle.rope_cells.specs.Lending.{LendsSome};
 ghost use Rattle.rope_read.specs.Text.{text};
 ghost use Rattle.rope_read.specs.Locating.{Located};

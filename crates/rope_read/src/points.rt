@@ -1,5 +1,5 @@
 //! The byte at a place, the sum of the bytes before a place, and the place at which a sum is reached.
-ghost use Rattle.std.specs.Prelude.{◌≡◌, ℕ, ◌+◌, ◌<◌, ◌≤◌, length, take, drop, slice_index};
+ghost use Rattle.std.specs.Prelude.{◌≡◌, ◌+◌, ◌<◌, ◌≤◌, length, take, slice_index};
 ghost use Rattle.rope_cells.specs.Lending.{Lends};
 ghost use Rattle.rope_read.specs.Text.{text};
 ghost use Rattle.rope_read.specs.Reading.{Reached};
@@ -7,7 +7,7 @@ ghost use Rattle.rope_read.specs.Reading.{Reached};
 use crate::locating::locate;
 use crate::totals::len;
 use cells::Ref;
-use rope_cells::{Bytes, Sum};
+use rope_cells::{Bytes, Leaf, Sum};
 use words::Words;
 
 /// The byte at place `at` of the rope `p`.
@@ -38,10 +38,9 @@ pub fn prefix<S: Sum, W: Words>(words: &mut W, p: Ref, at: u32) -> u32
 }
 
 /// The least number of bytes at the front of `part` that sum to `n`.
-fn reach_in<S: Sum>(part: &[u8], n: u32) -> usize
-    requires reached { n ≤ S.Sum.sums part.now }
-    requires few { length part.now ≤ 48 }
-    ensures value { Reached S.Sum.sums part.now n result }
+fn reach_in<S: Sum>(part: &Leaf, n: u32) -> usize
+    requires { n ≤ S.Sum.sums part.now.items }
+    ensures { Reached S.Sum.sums part.now.items n result }
 {
     let mut sum = 0;
     for (k, byte) in part.iter().enumerate() {

@@ -1,5 +1,5 @@
 //! The bytes of a range of a rope, leaf by leaf. A path down the rope is gone at each end of the range, and nowhere else.
-ghost use Rattle.std.specs.Prelude.{◌≡◌, ℕ, ◌+◌, ◌<◌, ◌≤◌, length, take, drop, ◌==◌};
+ghost use Rattle.std.specs.Prelude.{◌≡◌, ◌+◌, ◌<◌, ◌≤◌, length, take, drop, ◌==◌};
 ghost use Rattle.ropes.specs.Rope.{height};
 ghost use Rattle.rope_cells.specs.Lending.{Lends};
 ghost use Rattle.rope_cells.specs.Leaves.{LendsLeaf};

@@ -1,5 +1,5 @@
 //! What a rope has in all.
-ghost use Rattle.std.specs.Prelude.{◌≡◌, ℕ, ◌+◌, ◌<◌, ◌≤◌, length};
+ghost use Rattle.std.specs.Prelude.{◌≡◌, ◌+◌, ◌<◌, ◌≤◌, length};
 ghost use Rattle.rope_cells.specs.Lending.{Lends};
 ghost use Rattle.rope_read.specs.Text.{text};
 

@@ -4,7 +4,7 @@ use Rattle.rope_read.proofs.points.reach_in.Given as goal
 abbrev pub invariant-loop-k : goal.invariant-loop-k
 invariant-loop-k g l =
     record {
-      is : l.sum ≡ g.S.Sum.sums (take l.k l.part);
+      is : l.sum ≡ g.S.Sum.sums (take l.k l.part.items);
       within : l.sum ≤ l.n;
-      less : (q : ℕ) → q < l.k → g.S.Sum.sums (take q l.part) < l.n;
+      less : (q : ℕ) → q < l.k → g.S.Sum.sums (take q l.part.items) < l.n;
     }

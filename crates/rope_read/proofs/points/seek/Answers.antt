@@ -1,7 +1,6 @@
-use Rattle.std.proofs.Common.{◌+◌, ◌-◌, ◌<◌, sym, ap, subst, arith, rules}
+use Rattle.std.proofs.Common.{◌+◌, ◌<◌, sym, ap, arith, rules}
 use Rattle.std.proofs.lemmas.Bool.{eqb-true, eqb-false}
 use Rattle.rope_cells.proofs.Codes.{lends_some}
-use Rattle.rope_read.specs.Reading.{Reached}
 use Rattle.rope_read.proofs.Texts.{text_none, text_few}
 use Rattle.rope_read.proofs.Spots.{sums_none, reached_is}
 use Rattle.rope_read.proofs.points.seek.Goals as goal
@@ -19,7 +18,7 @@ locate-spot-requires-clause-rope g c = lends_some _ _ (eqb-false _ _ (sym c.if-i
 pub overflow_add-result : goal.overflow_add-result
 overflow_add-result g c =
     let s = g.met.S.Sum in
-    let x = reached_is g.S.Sum.sums s.whole s.small c.locate-spot.ensures.value _ (subst (λ z. Reached g.S.Sum.sums z (c.args.n - c.locate-spot.result.by) c.reach_in.result) c.deref.ensures.0 c.reach_in.ensures.value) in
+    let x = reached_is g.S.Sum.sums s.whole s.small c.locate-spot.ensures.value _ c.reach_in.ensures in
     let few = text_few _ _ c.requires.rope in
     let fits : c.locate-spot.result.of + c.reach_in.result < 536870912 = omega (arith, x.within) in
     search rules
@@ -27,4 +26,4 @@ overflow_add-result g c =
 pub returns-clause-value : goal.returns-clause-value
 returns-clause-value g c =
     let s = g.met.S.Sum in
-    reached_is g.S.Sum.sums s.whole s.small c.locate-spot.ensures.value _ (subst (λ z. Reached g.S.Sum.sums z (c.args.n - c.locate-spot.result.by) c.reach_in.result) c.deref.ensures.0 c.reach_in.ensures.value)
+    reached_is g.S.Sum.sums s.whole s.small c.locate-spot.ensures.value _ c.reach_in.ensures
