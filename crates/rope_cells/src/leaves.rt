@@ -1,5 +1,5 @@
 //! Reading leaves, and the bytes of two of them as one.
-ghost use Rattle.std.specs.Prelude.{◌≡◌, ℕ, ◌+◌, ◌≤◌, ◌++◌};
+ghost use Rattle.std.specs.Prelude.{◌≡◌, ◌+◌, ◌≤◌, ◌++◌};
 ghost use Rattle.arrayvec.specs.ArrayVec.{array_vec_len};
 ghost use Rattle.rope_cells.specs.Leaves.{LendsLeaf};
 
@@ -13,6 +13,9 @@ pub const LEAF_MIN: usize = 24;
 
 /// How many bytes a leaf has at most.
 pub const LEAF_MAX: usize = 48;
+
+/// How many bytes two leaves have at most.
+const TWO_LEAVES: usize = 2 * LEAF_MAX;
 
 /// The bytes of a leaf.
 pub type Leaf = ArrayVec<u8, LEAF_MAX>;
@@ -29,12 +32,11 @@ pub fn read_leaf<W: Words>(words: &mut W, p: Ref) -> Leaf
 }
 
 /// The bytes of two leaves, one behind the other.
-pub fn joined(a: &Leaf, b: &Leaf) -> ArrayVec<u8, 96>
+pub fn joined(a: &Leaf, b: &Leaf) -> ArrayVec<u8, TWO_LEAVES>
     ensures { result.items ≡ a.now.items ++ b.now.items }
 {
     let mut all = ArrayVec::new();
-    for byte in a.iter().chain(b.iter()) {
-        all.push(*byte);
-    }
+    all.try_extend_from_slice(a).unwrap();
+    all.try_extend_from_slice(b).unwrap();
     all
 }

@@ -1,5 +1,5 @@
 //! The data words of a leaf, which are its sums as the digits of one word and its bytes four to a word, and those of a node.
-ghost use Rattle.std.specs.Prelude.{◌≡◌, ℕ, ◌+◌, ◌*◌, ◌<◌, ◌≤◌, max, List, length, slice_index};
+ghost use Rattle.std.specs.Prelude.{◌≡◌, ℕ, ◌+◌, ◌*◌, ◌<◌, ◌≤◌, max, List, length};
 ghost use Rattle.arrayvec.specs.ArrayVec.{array_vec_len};
 ghost use Rattle.ropes.specs.Rope.{Rope, leaf_max, Octets};
 ghost use Rattle.ropes.specs.Layout.{sums_of, word_at, pack as packed, digit, leaf_data, node_data as data_of_node};
@@ -13,10 +13,14 @@ use arrayvec::ArrayVec;
 use cells::Data;
 use std::array;
 
-/// From which word on a node's data have the sums of all its bytes, and those of its left child.
+/// From which word on a node's data have the sums of all its bytes.
 pub const SUMS: usize = 1;
 
+/// From which word on they have those of its left child.
 pub const LEFT_SUMS: usize = 7;
+
+/// The base of the digits of a first data word.
+pub const BASE: u32 = 64;
 
 /// The first data word of a leaf of these bytes: its sums, the first lowest.
 fn leaf_tag(bytes: &[u8]) -> u32
@@ -25,7 +29,7 @@ fn leaf_tag(bytes: &[u8]) -> u32
 {
     let mut tag = 0;
     for sum in sums_of(bytes).iter().rev() {
-        tag = 64 * tag + sum;
+        tag = BASE * tag + sum;
     }
     tag
 }
@@ -35,7 +39,7 @@ fn digit_of(tag: u32, k: usize) -> u32
     requires { k < 6 }
     ensures { result ≡ digit tag k }
 {
-    tag / 64_u32.pow(k as u32) % 64
+    tag / BASE.pow(k as u32) % BASE
 }
 
 /// The sums of the leaf with this first data word.
@@ -54,6 +58,7 @@ fn word_at(bytes: &[u8], k: usize) -> u32
 }
 
 /// The data words of a leaf of these bytes.
+// Kept: a slice with its bound as a clause: a `Leaf` in its place would be a copy of bytes that already lie in one piece.
 pub fn pack(bytes: &[u8]) -> Data
     requires { length bytes.now ≤ 48 }
     ensures value { result ≡ leaf_data bytes.now }
@@ -77,7 +82,7 @@ pub fn unpack(words: &Data) -> Leaf
             leaf.push(byte);
         }
     }
-    leaf.truncate((words[0] % 64) as usize);
+    leaf.truncate((words[0] % BASE) as usize);
     leaf
 }
 
@@ -89,7 +94,7 @@ pub fn node_data(left: Summary, right: Summary) -> Data
 {
     let both: Sums = array::from_fn(|k| left.sums[k] + right.sums[k]);
     let mut data = [0; 13];
-    data[0] = NODE + 64 * (left.height.max(right.height) + 1);
+    data[0] = NODE + BASE * (left.height.max(right.height) + 1);
     data[SUMS..LEFT_SUMS].copy_from_slice(&both);
     data[LEFT_SUMS..].copy_from_slice(&left.sums);
     data

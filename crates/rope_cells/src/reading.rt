@@ -1,12 +1,12 @@
 //! What a rope's cell says of it.
-ghost use Rattle.std.specs.Prelude.{◌≡◌, ℕ, ◌+◌, ◌<◌, ◌≤◌};
+ghost use Rattle.std.specs.Prelude.{◌≡◌, ◌+◌, ◌<◌, ◌≤◌};
 ghost use Rattle.ropes.specs.Rope.{bytes, size};
 ghost use Rattle.ropes.specs.Layout.{sums_of};
 ghost use Rattle.rope_cells.specs.Tags.{TagIs};
 ghost use Rattle.rope_cells.specs.Lending.{Lends, LendsSome, LendsNode, LendsChildren, ShapeIs, SummaryIs};
 
 use crate::leaves::LEAF_MIN;
-use crate::packed::{LEFT_SUMS, SUMS, leaf_sums};
+use crate::packed::{BASE, LEFT_SUMS, SUMS, leaf_sums};
 use crate::sums::{Bytes, Sum, Sums, USED};
 use cells::{Ref, data_word};
 use words::Words;
@@ -52,8 +52,10 @@ fn tag_of<W: Words>(words: &mut W, p: Ref) -> Tag
     ensures touches { W.touched words.new ≤ W.touched words.old + 1 }
 {
     let word = data_word(words, p, 0);
-    if word % 64 == NODE {
-        Tag::Node { height: word / 64 }
+    if word % BASE == NODE {
+        Tag::Node {
+            height: word / BASE,
+        }
     } else {
         Tag::Leaf {
             sums: leaf_sums(word),
