@@ -1,5 +1,5 @@
 //! The writer over lent bytes.
-ghost use Rattle.std.specs.Prelude.{◌≡◌, ℕ, ◌+◌, ◌-◌, ◌*◌, ◌<◌, ◌≤◌, List, [], ◌∷◌, ◌++◌, length, take};
+ghost use Rattle.std.specs.Prelude.{ℕ, ◌≤◌, length, take};
 ghost use Rattle.term_rows.specs.Lent.{Lent};
 
 use crate::writer::ByteWriter;

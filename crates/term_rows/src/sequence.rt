@@ -6,8 +6,6 @@ ghost use Rattle.terminals.specs.Drawing.{step_bytes};
 use crate::position::Position;
 use crate::writer::{ByteWriter, write_bytes, write_number};
 
-const ESCAPE: u8 = 27;
-
 /// The longest move: two bytes, four digits, a semicolon, four digits and a byte.
 pub const LONGEST_MOVE: usize = 12;
 
@@ -27,8 +25,7 @@ pub fn write_move<W: ByteWriter>(writer: &mut W, to: Position)
     ensures long { length (W.written writer.new) ≤ length (W.written writer.old) + 12 }
     ensures same { W.lent writer.new ≡ W.lent writer.old }
 {
-    writer.write_byte(ESCAPE);
-    writer.write_byte(b'[');
+    write_bytes(writer, b"\x1b[");
     if to.row > 0 {
         write_number(writer, from_one(to.row));
     }

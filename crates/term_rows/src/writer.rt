@@ -1,7 +1,6 @@
-//! A writer of bytes, and what is written by it: runs, numbers, cursor moves and clears.
+//! A writer of bytes, and what is written by it: runs and numbers.
 ghost use Rattle.std.specs.Prelude.{◌≡◌, ℕ, ◌+◌, ◌<◌, ◌≤◌, List, [], ◌∷◌, ◌++◌, length};
 ghost use Rattle.spec.specs.Screen.{decimal};
-ghost use Rattle.terminals.specs.Sequences.{move_bytes, clear_bytes};
 ghost use Rattle.term_rows.specs.Lent.{Lent};
 
 use itoa::Buffer;
