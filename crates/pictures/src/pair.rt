@@ -77,8 +77,7 @@ impl Change for Pair<'_> {
         self.after.cursor
     }
 
-    fn unchanged(&self, row: u16) -> bool {
-        let _ = row;
+    fn unchanged(&self, _row: u16) -> bool {
         false
     }
 

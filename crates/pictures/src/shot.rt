@@ -21,7 +21,8 @@ pub struct Snapshot<'a> {
 /// Why nothing was drawn.
 #[derive(Clone, Copy, Debug, PartialEq, Eq, Error)]
 pub enum Fault {
-    /// The cells are not as many as the size says, or can't be shown, or the cursor is outside.
+    /// The cells are not as many as the size says, or can't be shown, or the cursor is outside; or a row lent is not of the
+    /// size's width.
     #[error("not a picture of the size")]
     NoPicture,
     /// The output lent is too small.

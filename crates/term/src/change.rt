@@ -6,7 +6,7 @@ use term_rows::Position;
 
 /// Two pictures: what stands on the screen, and what shall. Rows are read mostly from the top; the
 /// last row comes before them, and the cursor's row behind them.
-// Kept: both pictures are read from one mutable row of words, so they are no two values of one trait, and an argument for which of them would split each clause into two cases.
+// Kept: both pictures may lie in one mutable row of words, so they can't be two values of a trait; one method for both would take which of them, and each of its clauses would choose between the two.
 pub trait Change {
     /// What reading leaves as it is.
     ghost scene: { Self → Scene };

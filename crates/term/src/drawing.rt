@@ -10,8 +10,8 @@ use term_rows::{
     ByteWriter, LONGEST_MOVE, Output, Position, ROW_EXTRA, shortest_update, write_update,
 };
 
-// Kept: these go on as parameters; in a struct of them, with ghost fields for `pictures` and `buffers`, the goal `stays` of `redraw` didn't close: once the struct has ended, the check knows nothing of what it borrowed.
 /// Sends what turns one row, with the cursor at `at`, and says where the cursor is then. None if there is too little room.
+// Kept: `change`, `writer`, `old` and `new` go on as parameters (in painting.rt too, but for `old`): in a struct of them, with ghost fields for `pictures` and `buffers`, the goal `stays` of `redraw` didn't close, as the check knows nothing of what a struct borrowed once it has ended.
 fn redraw_row<C: Change, W: ByteWriter>(
     change: &mut C,
     writer: &mut W,

@@ -5,6 +5,7 @@ ghost use Rattle.terminals.specs.Sequences.{move_bytes};
 ghost use Rattle.terminals.specs.Drawing.{Drawable};
 ghost use Rattle.terminals.specs.Painting.{RepaintSays};
 ghost use Rattle.term.specs.Says.{PaintSays};
+ghost use Rattle.term_rows.specs.Lent.{HasRoom};
 
 use crate::change::Change;
 use crate::cursor::place_cursor;
@@ -20,7 +21,7 @@ const HOME: Position = Position { row: 0, column: 0 };
 
 /// Ends a sequence that the terminal may be in, and sends the cursor home.
 fn begin_painting<W: ByteWriter>(writer: &mut W)
-    requires { length (W.written writer.old) + 13 ≤ (W.lent writer.old).capacity }
+    requires { HasRoom (W.written writer.old) (W.lent writer.old) 13 }
     ensures says { W.written writer.new ≡ (W.written writer.old ++ (cancel_sequence ∷ [])) ++ move_bytes 0 0 }
     ensures long { length (W.written writer.new) ≤ length (W.written writer.old) + 13 }
     ensures same { W.lent writer.new ≡ W.lent writer.old }
@@ -38,7 +39,7 @@ fn repaint_rows<C: Change, W: ByteWriter>(
 ) -> Position
     requires ready { C.ready change.old }
     requires picture { Drawable rows (length new.old) (C.scene change.old).after }
-    requires roomy { length (W.written writer.old) + rows * (16 + length new.old) ≤ (W.lent writer.old).capacity }
+    requires roomy { HasRoom (W.written writer.old) (W.lent writer.old) (rows * (16 + length new.old)) }
     ensures says { PaintSays (W.written writer.old) (W.written writer.new) rows (length new.old) (C.scene change.old).after result }
     ensures long { length (W.written writer.new) ≤ length (W.written writer.old) + rows * (16 + length new.old) }
     ensures stays { C.scene change.new ≡ C.scene change.old }

@@ -5,7 +5,7 @@ ghost use Rattle.term_rows.specs.Lent.{Lent};
 use crate::writer::ByteWriter;
 
 /// Lent bytes, of which the first `used` were written.
-// Kept: bytes that the caller lends, with no heap; a slice cut off as it is written would no longer hold what was written.
+// Kept: a length beside the bytes: the caller lends them, with no heap, and a slice cut off as it is written would no longer hold what was written.
 #[derive(Drop)]
 pub struct Output<'a> {
     pub bytes: &'a mut [u8],

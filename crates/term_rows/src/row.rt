@@ -1,6 +1,7 @@
 //! What is sent for one row.
 ghost use Rattle.std.specs.Prelude.{◌≡◌, ℕ, ◌+◌, ◌<◌, ◌≤◌, List, ◌++◌, length};
 ghost use Rattle.terminals.specs.Drawing.{step_bytes, update_bytes};
+ghost use Rattle.term_rows.specs.Lent.{HasRoom};
 
 use crate::position::Position;
 use crate::sequence::{move_cursor, write_clear};
@@ -20,7 +21,7 @@ pub fn write_update<W: ByteWriter>(
 ) -> Position
     requires within { (update.from ≤ update.to) × ((update.from < length new.now) × (update.to ≤ length new.now)) }
     requires small { (row < 9999) × (length new.now ≤ 9999) }
-    requires roomy { length (W.written writer.old) + (16 + length new.now) ≤ (W.lent writer.old).capacity }
+    requires roomy { HasRoom (W.written writer.old) (W.lent writer.old) (16 + length new.now) }
     ensures says { W.written writer.new ≡ (W.written writer.old ++ step_bytes at.row at.column row update.from) ++ update_bytes new.now update.from update.to update.clear }
     ensures long { length (W.written writer.new) ≤ length (W.written writer.old) + (16 + length new.now) }
     ensures at_row { result.row ≡ row }

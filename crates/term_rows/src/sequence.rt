@@ -2,6 +2,7 @@
 ghost use Rattle.std.specs.Prelude.{◌≡◌, ℕ, ◌+◌, ◌<◌, ◌≤◌, List, ◌++◌, length};
 ghost use Rattle.terminals.specs.Sequences.{move_bytes, clear_bytes};
 ghost use Rattle.terminals.specs.Drawing.{step_bytes};
+ghost use Rattle.term_rows.specs.Lent.{HasRoom};
 
 use crate::position::Position;
 use crate::writer::{ByteWriter, write_bytes, write_number};
@@ -20,7 +21,7 @@ fn from_one(index: u16) -> u16
 /// `ESC [ row ; column H`. The terminal takes a number that is left out for 1.
 pub fn write_move<W: ByteWriter>(writer: &mut W, to: Position)
     requires small { (to.row < 9999) × (to.column < 9999) }
-    requires roomy { length (W.written writer.old) + 12 ≤ (W.lent writer.old).capacity }
+    requires roomy { HasRoom (W.written writer.old) (W.lent writer.old) 12 }
     ensures says { W.written writer.new ≡ W.written writer.old ++ move_bytes to.row to.column }
     ensures long { length (W.written writer.new) ≤ length (W.written writer.old) + 12 }
     ensures same { W.lent writer.new ≡ W.lent writer.old }
@@ -38,7 +39,7 @@ pub fn write_move<W: ByteWriter>(writer: &mut W, to: Position)
 
 /// `ESC [ K`.
 pub fn write_clear<W: ByteWriter>(writer: &mut W)
-    requires { length (W.written writer.old) + 3 ≤ (W.lent writer.old).capacity }
+    requires { HasRoom (W.written writer.old) (W.lent writer.old) 3 }
     ensures says { W.written writer.new ≡ W.written writer.old ++ clear_bytes }
     ensures long { length (W.written writer.new) ≡ length (W.written writer.old) + 3 }
     ensures same { W.lent writer.new ≡ W.lent writer.old }
@@ -49,7 +50,7 @@ pub fn write_clear<W: ByteWriter>(writer: &mut W)
 /// A move from where the cursor is, unless it is there already.
 pub fn move_cursor<W: ByteWriter>(writer: &mut W, at: Position, to: Position)
     requires small { (to.row < 9999) × (to.column < 9999) }
-    requires roomy { length (W.written writer.old) + 12 ≤ (W.lent writer.old).capacity }
+    requires roomy { HasRoom (W.written writer.old) (W.lent writer.old) 12 }
     ensures says { W.written writer.new ≡ W.written writer.old ++ step_bytes at.row at.column to.row to.column }
     ensures long { length (W.written writer.new) ≤ length (W.written writer.old) + 12 }
     ensures same { W.lent writer.new ≡ W.lent writer.old }

@@ -7,7 +7,6 @@ ghost use Rattle.term_rows.specs.Shortest.{Shortest, ShortestWhole};
 const CLEAR_LENGTH: usize = 3;
 
 /// The cells from `from` to `to` are written, and then the rest of the row is cleared or left.
-// Kept: `clear` is a yes or no, which the theorems on updates take as a Bool; each clause would have to turn an enum of two into one.
 #[derive(Clone, Copy)]
 pub struct Update {
     pub from: usize,

@@ -1,7 +1,7 @@
 //! A writer of bytes, and what is written by it: runs and numbers.
 ghost use Rattle.std.specs.Prelude.{◌≡◌, ℕ, ◌+◌, ◌<◌, ◌≤◌, List, [], ◌∷◌, ◌++◌, length};
 ghost use Rattle.spec.specs.Screen.{decimal};
-ghost use Rattle.term_rows.specs.Lent.{Lent};
+ghost use Rattle.term_rows.specs.Lent.{Lent, HasRoom};
 
 use itoa::Buffer;
 
@@ -29,7 +29,7 @@ pub trait ByteWriter {
 }
 
 pub fn write_bytes<W: ByteWriter>(writer: &mut W, bytes: &[u8])
-    requires { length (W.written writer.old) + length bytes.now ≤ (W.lent writer.old).capacity }
+    requires { HasRoom (W.written writer.old) (W.lent writer.old) (length bytes.now) }
     ensures says { W.written writer.new ≡ W.written writer.old ++ bytes.now }
     ensures long { length (W.written writer.new) ≡ length (W.written writer.old) + length bytes.now }
     ensures same { W.lent writer.new ≡ W.lent writer.old }
@@ -42,7 +42,7 @@ pub fn write_bytes<W: ByteWriter>(writer: &mut W, bytes: &[u8])
 /// A number of at most four digits, in decimal.
 #[tactic(auto, using(crate::proofs::Numbers::decimal_is, terminals::proofs::Decimals::decimal_short))]
 pub fn write_number<W: ByteWriter>(writer: &mut W, n: u16)
-    requires { (n ≤ 9999) × (length (W.written writer.old) + 4 ≤ (W.lent writer.old).capacity) }
+    requires { (n ≤ 9999) × HasRoom (W.written writer.old) (W.lent writer.old) 4 }
     ensures says { W.written writer.new ≡ W.written writer.old ++ decimal n }
     ensures long { length (W.written writer.new) ≤ length (W.written writer.old) + 4 }
     ensures same { W.lent writer.new ≡ W.lent writer.old }
