@@ -18,15 +18,6 @@ fn cell(dice: &mut Dice) -> u8 {
     }
 }
 
-pub fn random(heap: Global, dice: &mut Dice, size: Size) -> Result<Cells, AllocError> {
-    let count = usize::from(size.rows) * usize::from(size.columns);
-    let bytes = (0..count).map(|_| cell(dice)).collect(heap)?;
-    Ok(Cells {
-        bytes,
-        cursor: place(dice, size),
-    })
-}
-
 fn place(dice: &mut Dice, size: Size) -> Position {
     let row = dice.below(size.rows.max(1));
     let column = dice.below(size.columns.max(1));
@@ -69,6 +60,15 @@ impl Part {
 }
 
 impl Cells {
+    pub fn random(heap: Global, dice: &mut Dice, size: Size) -> Result<Cells, AllocError> {
+        let count = usize::from(size.rows) * usize::from(size.columns);
+        let bytes = (0..count).map(|_| cell(dice)).collect(heap)?;
+        Ok(Cells {
+            bytes,
+            cursor: place(dice, size),
+        })
+    }
+
     pub fn shot(&self) -> Snapshot {
         Snapshot {
             cells: self.bytes.as_slice(),

@@ -2,7 +2,7 @@
 ghost use Rattle.std.specs.Prelude.{◌<◌};
 
 use crate::dice::Dice;
-use crate::picture::{Cells, random};
+use crate::picture::Cells;
 use anyhow::{Context, ensure};
 use pictures::{Size, bound, draw, paint};
 use plain_terminal::Terminal;
@@ -29,7 +29,7 @@ impl Screen {
         let plain = plain_lines::Size::new(size.rows as usize, columns).context("no size")?;
         let mut terminal = Terminal::new(heap, plain, b'#')?;
         terminal.feed(b"\x1b[2;2Hx\x1b[1")?;
-        let shown = random(heap, dice, size)?;
+        let shown = Cells::random(heap, dice, size)?;
         let mut new = vec![in heap; 0u8; columns]?;
         let mut out = vec![in heap; 0u8; ROOM]?;
         let n = paint(size, shown.shot(), &mut new, &mut out)?;

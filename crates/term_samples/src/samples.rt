@@ -1,6 +1,6 @@
 //! The changes.
 use crate::report::print_change;
-use crate::view::{Mode, Text, View};
+use crate::view::{Mode, View};
 use anyhow::Context;
 use pictures::Position;
 use std::alloc::{AllocError, Global};
@@ -9,11 +9,11 @@ use std::iter::once;
 /// The text with another line in the place of one or two.
 fn with_line(
     heap: Global,
-    text: &Text,
+    text: &[Vec<u8>],
     at: usize,
     taken: usize,
     line: &[u8],
-) -> Result<Text, AllocError> {
+) -> Result<Vec<Vec<u8>>, AllocError> {
     let above = text.iter().take(at);
     let below = text.iter().skip(at.saturating_add(taken));
     above
@@ -31,7 +31,7 @@ fn with_letter(heap: Global, line: &[u8], column: usize) -> Result<Vec<u8>, Allo
     Ok(out)
 }
 
-fn letter(rt: &HostRuntime, name: &str, text: &Text, column: u16) -> anyhow::Result<()> {
+fn letter(rt: &HostRuntime, name: &str, text: &[Vec<u8>], column: u16) -> anyhow::Result<()> {
     let line = text.get(5).context("no line")?;
     let line = with_letter(rt.alloc(), line, column as usize)?;
     let longer = with_line(rt.alloc(), text, 5, 1, &line)?;
@@ -52,15 +52,15 @@ fn letter(rt: &HostRuntime, name: &str, text: &Text, column: u16) -> anyhow::Res
     print_change(rt, name, &before, &after)
 }
 
-pub fn letter_at_end(rt: &HostRuntime, text: &Text) -> anyhow::Result<()> {
+pub fn letter_at_end(rt: &HostRuntime, text: &[Vec<u8>]) -> anyhow::Result<()> {
     letter(rt, "a letter typed at the end of a line", text, 40)
 }
 
-pub fn letter_inside(rt: &HostRuntime, text: &Text) -> anyhow::Result<()> {
+pub fn letter_inside(rt: &HostRuntime, text: &[Vec<u8>]) -> anyhow::Result<()> {
     letter(rt, "a letter typed in the middle of a line of 40", text, 20)
 }
 
-pub fn join(rt: &HostRuntime, text: &Text) -> anyhow::Result<()> {
+pub fn join(rt: &HostRuntime, text: &[Vec<u8>]) -> anyhow::Result<()> {
     let upper = text.get(11).context("no line")?;
     let lower = text.get(12).context("no line")?;
     let mut line = Vec::from_slice(rt.alloc(), upper)?;
@@ -89,7 +89,7 @@ pub fn join(rt: &HostRuntime, text: &Text) -> anyhow::Result<()> {
     )
 }
 
-pub fn step(rt: &HostRuntime, text: &Text) -> anyhow::Result<()> {
+pub fn step(rt: &HostRuntime, text: &[Vec<u8>]) -> anyhow::Result<()> {
     let before = View {
         text,
         top: 0,
@@ -103,7 +103,7 @@ pub fn step(rt: &HostRuntime, text: &Text) -> anyhow::Result<()> {
     print_change(rt, "a step down", &before, &after)
 }
 
-fn scroll(rt: &HostRuntime, name: &str, text: &Text) -> anyhow::Result<()> {
+fn scroll(rt: &HostRuntime, name: &str, text: &[Vec<u8>]) -> anyhow::Result<()> {
     let before = View {
         text,
         top: 0,
@@ -117,11 +117,11 @@ fn scroll(rt: &HostRuntime, name: &str, text: &Text) -> anyhow::Result<()> {
     print_change(rt, name, &before, &after)
 }
 
-pub fn step_and_scroll(rt: &HostRuntime, text: &Text) -> anyhow::Result<()> {
+pub fn step_and_scroll(rt: &HostRuntime, text: &[Vec<u8>]) -> anyhow::Result<()> {
     scroll(rt, "a step down that scrolls", text)
 }
 
-pub fn scroll_full_rows(rt: &HostRuntime, text: &Text) -> anyhow::Result<()> {
+pub fn scroll_full_rows(rt: &HostRuntime, text: &[Vec<u8>]) -> anyhow::Result<()> {
     scroll(
         rt,
         "a step down that scrolls lines as wide as the screen",

@@ -16,8 +16,6 @@ const TEXT_ROWS: usize = SIZE.rows as usize - 1;
 
 const LINES: u16 = 60;
 
-pub type Text = Vec<Vec<u8>>;
-
 #[derive(Clone, Copy)]
 pub enum Mode {
     Normal,
@@ -35,7 +33,7 @@ impl fmt::Display for Mode {
 
 #[derive(Clone, Copy)]
 pub struct View<'a> {
-    pub text: &'a Text,
+    pub text: &'a [Vec<u8>],
     pub top: usize,
     pub cursor: Position,
     pub mode: Mode,
@@ -52,7 +50,7 @@ fn cell(line: u16, column: u16) -> u8 {
 }
 
 /// Lines of a width.
-pub fn text(heap: Global, width: u16) -> Result<Text, AllocError> {
+pub fn text(heap: Global, width: u16) -> Result<Vec<Vec<u8>>, AllocError> {
     (0..LINES)
         .map(|line| -> Result<Vec<u8>, AllocError> {
             (0..width).map(|column| cell(line, column)).collect(heap)
