@@ -1,8 +1,7 @@
 //! Two pictures of one size, and what is sent for them.
-ghost use Rattle.std.specs.Prelude.{◌≡◌, ℕ, ◌+◌, ◌*◌, ◌<◌, ◌≤◌, List, [], length, take, drop, ◌↔◌, IsOk, IfOk, IfErr, IsErrOf, ⊤};
+ghost use Rattle.std.specs.Prelude.{◌≡◌, ◌+◌, ◌*◌, ◌<◌, ◌≤◌, [], length, take, drop, ◌↔◌, IsOk, IfOk, IfErr, IsErrOf, ⊤};
 ghost use Rattle.terminals.specs.Progress.{RedrawDone};
 ghost use Rattle.terminals.specs.Painting.{RepaintDone};
-ghost use Rattle.term.specs.Scene.{Scene};
 ghost use Rattle.pictures.specs.Shots.{shown, IsShown};
 ghost use Rattle.spec.specs.Promises.{rows_cost, cost, paint_cost};
 

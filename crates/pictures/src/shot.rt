@@ -1,5 +1,5 @@
 //! A picture as bytes, and whether it is one that can be drawn.
-ghost use Rattle.std.specs.Prelude.{◌≡◌, ℕ, ◌+◌, ◌*◌, ◌<◌, ◌≤◌, ◌↔◌, T, length};
+ghost use Rattle.std.specs.Prelude.{◌≡◌, ◌↔◌, T};
 ghost use Rattle.pictures.specs.Rows.{all_printable, Valid};
 
 use term::Position;

@@ -1,6 +1,5 @@
 //! The writer over lent bytes.
-ghost use Rattle.std.specs.Prelude.{ℕ, ◌≤◌, length, take};
-ghost use Rattle.term_rows.specs.Lent.{Lent};
+ghost use Rattle.std.specs.Prelude.{◌≤◌, length, take};
 
 use crate::writer::ByteWriter;
 
