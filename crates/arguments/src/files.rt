@@ -1,5 +1,5 @@
 //! What a program reads and writes, and how it ends.
-ghost use Rattle.std.specs.Prelude.{◌≡◌, OnOk, OnErr};
+ghost use Rattle.std.specs.Prelude.{◌≡◌, IfErr, OnOk, OnErr};
 
 use crate::refusal::Refusal;
 use std::fs;
@@ -10,14 +10,16 @@ pub fn read_file(rt: &HostRuntime, name: String) -> Result<Vec<u8>, Refusal> {
     fs::read(rt, name.as_str()).map_err(|_| Refusal::Unreadable(name))
 }
 
-pub fn write_output(rt: &HostRuntime, bytes: &[u8]) -> Result<(), Refusal> {
+pub fn write_output(rt: &HostRuntime, bytes: &[u8]) -> Result<(), Refusal>
+    ensures { IfErr result (λ refusal. refusal ≡ Refusal.Unwritable) }
+{
     rt.stdout()
         .write_all(bytes)
         .map_err(|_| Refusal::Unwritable)
 }
 
-// How a program ends, which says what it refuses.
-pub fn ended(rt: &HostRuntime, program: &str, outcome: Result<(), Refusal>) -> ExitCode
+// The exit code of a program's outcome; where that is a refusal, it is printed first.
+pub fn exit_code(rt: &HostRuntime, program: &str, outcome: Result<(), Refusal>) -> ExitCode
     ensures ok { OnOk outcome (result ≡ ExitCode.SUCCESS) }
     ensures err { OnErr outcome (result ≡ ExitCode.FAILURE) }
 {

@@ -7,6 +7,6 @@ mod refusal;
 mod tests;
 mod words;
 
-pub use files::{ended, read_file, write_output};
+pub use files::{exit_code, read_file, write_output};
 pub use refusal::Refusal;
 pub use words::{Words, screen_size};

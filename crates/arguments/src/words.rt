@@ -22,9 +22,7 @@ impl Words {
 
     // Those of the command line, without the program's name.
     pub fn of_program(rt: &HostRuntime, usage: &'static str) -> Result<Words, Refusal> {
-        let Ok(mut args) = env::args(rt) else {
-            return Err(Refusal::Usage(usage));
-        };
+        let mut args = env::args(rt).map_err(|_| Refusal::Usage(usage))?;
         let _program = args.next();
         let words = args.collect(rt.alloc())?;
         Ok(Words::new(words, usage))

@@ -60,7 +60,7 @@ fn scrolled(first: usize, shown: usize, at: usize) -> usize
 }
 
 // A row and a column of the screen, counted from 0.
-#[derive(Clone, Copy)]
+#[derive(Clone, Copy, Debug, PartialEq, Eq)]
 pub struct Position {
     pub row: usize,
     pub column: usize,

@@ -104,7 +104,7 @@ impl<'a> Place<'a> {
         self.repeated(Place::previous_beginning, count)
     }
 
-    // The last byte of the so-manieth word that ends behind, or of the text if there are fewer.
+    // The last byte of the `count`-th word that ends behind, or of the text if there are fewer.
     pub fn word_ends_on(self, count: usize) -> Place<'a>
         ensures text { result.text.now ≡ self.entry.text.now }
         ensures behind { self.entry.at ≤ result.at }

@@ -1,7 +1,7 @@
 //! Plays keys from a file on a text from a file, and writes what the text then is.
 #![tactic(auto)]
 
-use arguments::{Refusal, Words, ended, read_file, write_output};
+use arguments::{Refusal, Words, exit_code, read_file, write_output};
 use plain::{Editor, Size};
 use std::alloc::{AllocError, Global};
 use std::process::ExitCode;
@@ -29,5 +29,5 @@ fn run(rt: &HostRuntime) -> Result<(), Refusal> {
 }
 
 fn main(rt: HostRuntime) -> ExitCode {
-    ended(&rt, "play", run(&rt))
+    exit_code(&rt, "play", run(&rt))
 }

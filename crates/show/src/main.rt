@@ -1,7 +1,7 @@
 //! Plays keys from a file on a text from a file, and prints the screen at the beginning and after each.
 #![tactic(auto)]
 
-use arguments::{Refusal, Words, ended, read_file, screen_size, write_output};
+use arguments::{Refusal, Words, exit_code, read_file, screen_size, write_output};
 use plain::{Editor, Position};
 use std::alloc::{AllocError, Global};
 use std::process::ExitCode;
@@ -51,5 +51,5 @@ fn run(rt: &HostRuntime) -> Result<(), Refusal> {
 }
 
 fn main(rt: HostRuntime) -> ExitCode {
-    ended(&rt, "show", run(&rt))
+    exit_code(&rt, "show", run(&rt))
 }
