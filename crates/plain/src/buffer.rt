@@ -50,6 +50,7 @@ impl Buffer {
     }
 
     // Puts bytes in the place of those between two places, at the first of which the cursor is then.
+    // Kept: by `[..].concat(heap)` the proof didn't close: that the bytes are the three parts, since `concat` tells of clones.
     pub fn replace(
         &mut self,
         heap: Global,

@@ -18,6 +18,7 @@ impl Editor {
         let Some(extent) = taken else {
             return Ok(());
         };
+        // The order of the arms matters: changing no bytes begins to insert, and else no bytes do nothing.
         match (operator, extent.shape) {
             // the cursor stays
             (Operator::Yank, Shape::Lines) => self.keep(extent),

@@ -54,6 +54,7 @@ fn reach(here: Place, motion: Motion, count: Count) -> Option<Place>
         Motion::Find(byte) => Some(find(here, byte, times)?.right(1)),
         Motion::Till(byte) => find(here, byte, times),
         Motion::LineEnd => end_below(here, times),
+        // these motions keep to no column
         _ => destination(here, 0, motion, count),
     }
 }
@@ -78,6 +79,7 @@ pub fn taken_by(here: Place, motion: Motion, count: Count) -> Option<Extent>
 {
     match motion {
         Motion::Down | Motion::Up | Motion::ToLine | Motion::ToFirstLine => {
+            // in any column of its line
             let place = destination(here, 0, motion, count)?;
             Some(lines_between(here, place))
         }

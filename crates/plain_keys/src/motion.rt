@@ -69,7 +69,7 @@ fn to_line(here: Place, number: usize) -> Place
     start.first_nonblank()
 }
 
-// The so-manieth of the bytes in the line, behind the place, that equal `byte`.
+// The `count`-th of the bytes in the line, behind the place, that equal `byte`.
 pub fn find(here: Place, byte: u8, count: usize) -> Option<Place>
     ensures { IfSome result (λ p. (p.text.now ≡ here.entry.text.now) × (here.entry.at < p.at) × (p.at < length p.text.now)) }
 {

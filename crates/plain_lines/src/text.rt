@@ -14,6 +14,7 @@ fn line_length(bytes: &[u8]) -> usize
 }
 
 // A place of a text: the number of bytes before it.
+// Kept: each function says that its result is of the same text: a definition would be as long as that equation of the two texts.
 #[derive(Clone, Copy)]
 pub struct Place<'a> {
     pub text: &'a [u8],

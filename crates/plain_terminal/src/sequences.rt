@@ -1,6 +1,9 @@
 //! What bytes ask of a terminal: to write, to move the cursor, or to clear the rest of a row.
-ghost use Rattle.std.specs.Prelude.{◌<◌, ◌≤◌, length, IfSome};
+ghost use Rattle.std.specs.Prelude.{◌≡◌, ◌-◌, ◌<◌, ◌≤◌, max, length, IfSome};
 
+use plain_lines::Position;
+
+// Kept: the first editor names this byte too, but the second shares no code with it.
 const ESCAPE: u8 = 0x1b;
 
 // Numbers stop here.
@@ -9,9 +12,7 @@ const MOST: usize = 9_999;
 #[derive(Clone, Copy)]
 pub enum Action {
     Write(u8),
-    // to a row and a column counted from 1
-    // Kept: 0 stands for a number left out too: both mean 1, and an Option would make two cases of one.
-    Move(usize, usize),
+    Move(Position),
     ClearRest,
     Nothing,
 }
@@ -30,6 +31,17 @@ fn read_number(bytes: &[u8]) -> (usize, &[u8])
     (number, rest)
 }
 
+// The position of a row and a column that are sent: counted from 1, and 0 is as 1.
+fn sent_position(row: usize, column: usize) -> Position
+    ensures row { result.row ≡ max row 1 - 1 }
+    ensures column { result.column ≡ max column 1 - 1 }
+{
+    Position {
+        row: row.max(1) - 1,
+        column: column.max(1) - 1,
+    }
+}
+
 // What a control sequence asks, from behind its bracket; none while it has no end.
 fn read_control(bytes: &[u8]) -> Option<(Action, &[u8])>
     ensures { IfSome result (λ p. length p.1.now < length bytes.now) }
@@ -41,7 +53,7 @@ fn read_control(bytes: &[u8]) -> Option<(Action, &[u8])>
     };
     match rest {
         [] => None,
-        [b'H', behind @ ..] => Some((Action::Move(row, column), behind)),
+        [b'H', behind @ ..] => Some((Action::Move(sent_position(row, column)), behind)),
         [b'K', behind @ ..] => Some((Action::ClearRest, behind)),
         [_, behind @ ..] => Some((Action::Nothing, behind)),
     }

@@ -1,8 +1,8 @@
 //! The cells of a terminal and its cursor.
-ghost use Rattle.std.specs.Prelude.{◌≡◌, ◌+◌, ◌-◌, ◌*◌, ◌<◌, ◌≤◌, min, max, length, IfOk, vec_len, MatchOption, slice_set};
+ghost use Rattle.std.specs.Prelude.{◌≡◌, ◌+◌, ◌-◌, ◌*◌, ◌<◌, ◌≤◌, min, length, IfOk, vec_len, MatchOption, slice_set};
 
 use crate::sequences::{Action, read_action};
-use plain_lines::Size;
+use plain_lines::{Position, Size};
 use std::alloc::{AllocError, Global};
 use std::mem;
 
@@ -12,40 +12,38 @@ pub struct Terminal {
     size: Size,
     // row by row
     cells: Vec<u8>,
-    // counted from 0; the column may be the one behind the row
-    row: usize,
-    column: usize,
+    // its column may be the one behind the row
+    cursor: Position,
     // a sequence that has no end yet
     unread: Vec<u8>,
     ghost filled: { vec_len cells ≡ size.rows * size.columns },
-    ghost inside: { (row < size.rows) × (column ≤ size.columns) },
+    ghost inside: { (cursor.row < size.rows) × (cursor.column ≤ size.columns) },
 }
 
 impl Terminal {
     // Every cell has the same byte, and the cursor is in the first one.
     pub fn new(heap: Global, size: Size, fill: u8) -> Result<Terminal, AllocError>
-        ensures { IfOk result (λ t. (t.row ≡ 0) × (t.column ≡ 0) × (t.size ≡ size)) }
+        ensures { IfOk result (λ t. (t.cursor.row ≡ 0) × (t.cursor.column ≡ 0) × (t.size ≡ size)) }
     {
         let cells = vec![in heap; fill; size.rows() * size.columns()]?;
         Ok(Terminal {
             heap,
             size,
             cells,
-            row: 0,
-            column: 0,
+            cursor: Position { row: 0, column: 0 },
             unread: Vec::new(heap),
         })
     }
 
-    // The row and the column of the cursor.
-    pub fn cursor(&self) -> (usize, usize)
-        ensures value { (result.0 ≡ self.now.row) × (result.1 ≡ self.now.column) }
-        ensures within { (result.0 < self.now.size.rows) × (result.1 ≤ self.now.size.columns) }
+    pub fn cursor(&self) -> Position
+        ensures value { result ≡ self.now.cursor }
+        ensures within { (result.row < self.now.size.rows) × (result.column ≤ self.now.size.columns) }
     {
-        (self.row, self.column)
+        self.cursor
     }
 
     // The cells of a row, if there is one.
+    // Kept: by `chunks(columns).nth(row)` the proof didn't close: that the chunk is there and as wide as the screen.
     pub fn row(&self, row: usize) -> Option<&[u8]>
         ensures { MatchOption result (self.now.size.rows ≤ row) (λ cells. length cells.now ≡ self.now.size.columns) }
     {
@@ -61,31 +59,33 @@ impl Terminal {
 
     // Where it can't be written any more, it is lost.
     fn write(&mut self, byte: u8)
-        ensures written { self.old.column < self.old.size.columns → (self.new.cells.items ≡ slice_set self.old.cells.items (self.old.row * self.old.size.columns + self.old.column) byte) × (self.new.column ≡ self.old.column + 1) }
-        ensures lost { self.old.column ≡ self.old.size.columns → self.new ≡ self.old }
+        ensures written { self.old.cursor.column < self.old.size.columns → (self.new.cells.items ≡ slice_set self.old.cells.items (self.old.cursor.row * self.old.size.columns + self.old.cursor.column) byte) × (self.new.cursor.column ≡ self.old.cursor.column + 1) }
+        ensures lost { self.old.cursor.column ≡ self.old.size.columns → self.new ≡ self.old }
     {
         let columns = self.size.columns();
-        if self.column < columns {
-            let place = self.row * columns + self.column;
+        if self.cursor.column < columns {
+            let place = self.cursor.row * columns + self.cursor.column;
             self.cells[place] = byte;
-            self.column += 1;
+            self.cursor.column += 1;
         }
     }
 
-    // Counted from 1, at most to the last; 0 is as 1.
-    fn move_to(&mut self, row: usize, column: usize)
-        ensures row { self.new.row ≡ min (max row 1) self.old.size.rows - 1 }
-        ensures column { self.new.column ≡ min (max column 1) self.old.size.columns - 1 }
+    // At most to the last row and the last column.
+    fn move_to(&mut self, position: Position)
+        ensures row { self.new.cursor.row ≡ min position.row (self.old.size.rows - 1) }
+        ensures column { self.new.cursor.column ≡ min position.column (self.old.size.columns - 1) }
         ensures cells { self.new.cells ≡ self.old.cells }
     {
-        self.row = row.max(1).min(self.size.rows()) - 1;
-        self.column = column.max(1).min(self.size.columns()) - 1;
+        self.cursor = Position {
+            row: position.row.min(self.size.rows() - 1),
+            column: position.column.min(self.size.columns() - 1),
+        };
     }
 
     fn clear_rest(&mut self) {
         let columns = self.size.columns();
-        let start = self.row * columns;
-        let from = start + self.column;
+        let start = self.cursor.row * columns;
+        let from = start + self.cursor.column;
         let to = start + columns;
         self.cells[from..to].fill(b' ');
     }
@@ -93,7 +93,7 @@ impl Terminal {
     fn apply(&mut self, action: Action) {
         match action {
             Action::Write(byte) => self.write(byte),
-            Action::Move(row, column) => self.move_to(row, column),
+            Action::Move(position) => self.move_to(position),
             Action::ClearRest => self.clear_rest(),
             Action::Nothing => {}
         }

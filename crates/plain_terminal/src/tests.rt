@@ -1,6 +1,6 @@
 //! The terminal's rules.
 use crate::terminal::Terminal;
-use plain_lines::Size;
+use plain_lines::{Position, Size};
 use std::test::Fail;
 
 // What is sent to two rows of five dots, what they then show, and where the cursor is.
@@ -51,15 +51,13 @@ fn sent(rt: &HostRuntime, size: Size, bytes: &[u8], cut: usize) -> Result<Termin
 
 #[test]
 fn rules(rt: HostRuntime) -> Result<(), Fail> {
-    let Some(size) = Size::new(2, 5) else {
-        return Err(Fail::new("no size"));
-    };
+    let size = Size::new(2, 5).ok_or("no size")?;
     for (bytes, first, second, row, column) in CASES {
         for cut in 0..bytes.len() {
             let terminal = sent(&rt, size, bytes, cut)?;
             assert_eq!(rt; terminal.row(0), Some(first));
             assert_eq!(rt; terminal.row(1), Some(second));
-            assert_eq!(rt; terminal.cursor(), (row, column));
+            assert_eq!(rt; terminal.cursor(), Position { row, column });
         }
     }
     Ok(())

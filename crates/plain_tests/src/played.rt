@@ -11,9 +11,7 @@ pub fn played(
     columns: usize,
     keys: &[u8],
 ) -> Result<Editor, Fail> {
-    let Some(size) = Size::new(rows, columns) else {
-        return Err(Fail::new("no such size"));
-    };
+    let size = Size::new(rows, columns).ok_or("no such size")?;
     let heap = rt.alloc();
     let mut editor = Editor::new(heap, Vec::from_slice(heap, text)?, size);
     for key in keys {
@@ -31,7 +29,6 @@ pub fn check_painting(rt: &(impl Abort + AllocGlobal), editor: &Editor) -> Resul
     for row in 0..size.rows() {
         assert_eq!(rt; terminal.row(row), Some(editor.row(row)?.as_slice()));
     }
-    let cursor = editor.screen_cursor();
-    assert_eq!(rt; terminal.cursor(), (cursor.row, cursor.column));
+    assert_eq!(rt; terminal.cursor(), editor.screen_cursor());
     Ok(())
 }

@@ -1,5 +1,6 @@
 //! Worked keys on a text of five lines, the last of them empty.
 use crate::played::{check_painting, played};
+use plain::Position;
 use std::test::Fail;
 
 const TEXT: &[u8] = b"the quick brown fox\n  jumps over\n\nthe lazy dog_1, 42\n";
@@ -103,7 +104,6 @@ fn screen(rt: HostRuntime) -> Result<(), Fail> {
     for (row, cells) in ROWS.iter().enumerate() {
         assert_eq!(rt; editor.row(row)?.as_slice(), *cells);
     }
-    let cursor = editor.screen_cursor();
-    assert_eq!(rt; (cursor.row, cursor.column), (3, 11));
+    assert_eq!(rt; editor.screen_cursor(), Position { row: 3, column: 11 });
     Ok(())
 }

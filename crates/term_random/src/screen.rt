@@ -5,6 +5,7 @@ use crate::dice::Dice;
 use crate::picture::Cells;
 use anyhow::{Context, ensure};
 use pictures::{Size, bound, draw, paint};
+use plain_lines::Position;
 use plain_terminal::Terminal;
 use std::alloc::Global;
 
@@ -45,7 +46,10 @@ impl Screen {
 
     fn compare(&self) -> anyhow::Result<()> {
         let cursor = self.shown.cursor;
-        let expected = (cursor.row as usize, cursor.column as usize);
+        let expected = Position {
+            row: cursor.row as usize,
+            column: cursor.column as usize,
+        };
         ensure!(
             self.terminal.cursor() == expected,
             "the cursor is elsewhere"
