@@ -1,7 +1,7 @@
 //! Ropes made of ropes and of bytes: parts, replacements, building and repeating.
 #![tactic(auto)]
 
-// Kept: `kept` is a clause of its own: as a field of a record each proof of that record would have to give it besides, while as a clause the check mostly finds it alone.
+// Kept: `kept` is a clause of its own: as a field of a record each proof of that record would have to give it besides, while as a clause the check often finds it alone.
 
 mod building;
 mod repeating;
