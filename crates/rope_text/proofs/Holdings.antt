@@ -2,12 +2,11 @@
 use Rattle.std.proofs.Common.{◌≡◌, ℕ, ◌+◌, ◌-◌, ◌*◌, ◌^◌, ◌<◌, ◌≤◌, List, [], ◌∷◌, ◌++◌, length, take, drop, Some, None, Option, sym, refl, ap, ◌∙◌, subst, arith}
 use Rattle.std.proofs.lemmas.List.{length-take, length-drop, take_all}
 use Rattle.cells.specs.declared.cell.Ref.{Ref}
-use Rattle.cells.specs.Tree.{none}
 use Rattle.cells.specs.Have.{item, Have}
 use Rattle.cells.specs.Steps.{Begun, Sharing, Shared, Holding, Released}
 use Rattle.cells.proofs.Held.{lend, have_none}
 use Rattle.spec.specs.Text.{replaced, copies, part}
-use Rattle.ropes.specs.Rope.{Rope, empty, bytes, size, height}
+use Rattle.ropes.specs.Rope.{empty, bytes, size}
 use Rattle.ropes.specs.Join.{concat}
 use Rattle.ropes.specs.Cut.{front, back}
 use Rattle.ropes.proofs.Cuts.{size_bytes, bytes_front, bytes_back}
@@ -17,7 +16,7 @@ use Rattle.rope_cells.specs.Lending.{Lends}
 use Rattle.rope.specs.Building.{Two, Joins, Any, Free, concat_price}
 use Rattle.rope.specs.declared.cutting.Cut.{Cut}
 use Rattle.rope.specs.Cutting.{One, Short, Splits}
-use Rattle.rope.proofs.Holds.{swap_have, third_have, lends}
+use Rattle.rope.proofs.Holds.{swap_have, lends}
 use Rattle.rope_edit.specs.Editing.{Lend, Builds, Replaces, Times, Repeated, Slices}
 use Rattle.rope_edit.proofs.Slices.{front_short, back_short, short_low}
 use Rattle.rope_edit.proofs.Follows.{concat_short}

@@ -1,9 +1,10 @@
 //! A text and the words in which it lies.
-ghost use Rattle.std.specs.Prelude.{◌≡◌, ℕ, ◌+◌, ◌*◌, ◌<◌, ◌≤◌, [], ◌++◌, length, take, drop, slice_index, MatchOption, MatchResult};
+ghost use Rattle.std.specs.Prelude.{◌≡◌, ℕ, ◌+◌, ◌*◌, ◌<◌, ◌≤◌, [], ◌++◌, true, length, take, drop, slice_index, MatchOption, MatchResult};
 ghost use Rattle.spec.specs.Text.{replaced, copies, part};
 ghost use Rattle.rope_read.specs.Finding.{Absent, First, Last};
 ghost use Rattle.rope_read.specs.Reading.{Reached};
 
+use crate::balance;
 use crate::editing::{repeated, replaced, rotated, settle, sliced};
 use cells::{NONE, Ref};
 use rope_cells::Sum;
@@ -150,5 +151,13 @@ impl<W: Words> RopeText<W> {
         ensures same { self.new ≡ self.old }
     {
         rope_read::find_back(&mut self.words, self.root, from, to, byte)
+    }
+
+    /// Whether the rope is in balance, its leaves are filled, and its cells say what is counted.
+    pub fn is_balanced(&mut self) -> bool
+        ensures value { result ≡ true }
+        ensures same { self.new ≡ self.old }
+    {
+        balance::is_balanced(&mut self.words, self.root)
     }
 }

@@ -1,4 +1,4 @@
-use Rattle.rope_text.proofs.Holdings.{stands_few, unbuilt, built, beside_sharing, replacing, replaced_offered}
+use Rattle.rope_text.proofs.Holdings.{unbuilt, built, beside_sharing, replacing, replaced_offered}
 use Rattle.rope_text.proofs.editing.replaced.Goals as goal
 
 pub returns-in_err-new : goal.returns-in_err-new

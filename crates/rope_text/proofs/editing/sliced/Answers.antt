@@ -1,4 +1,4 @@
-use Rattle.std.proofs.Common.{◌≡◌, ◌+◌, ◌<◌, ◌≤◌, ap, length, arith, rules}
+use Rattle.std.proofs.Common.{ap, length, arith, rules}
 use Rattle.rope_text.proofs.Holdings.{stands_few, lending, unsliced, sliced_beside, new_lends, new_text, new_holding, beside_old, length_part, read_part}
 use Rattle.rope_text.proofs.editing.sliced.Goals as goal
 

@@ -1,5 +1,5 @@
-use Rattle.std.proofs.Common.{◌≡◌, drop, take, ◌++◌, MatchResult, subst}
-use Rattle.spec.specs.Text.{replaced, copies}
+use Rattle.std.proofs.Common.{◌≡◌, MatchResult, subst}
+use Rattle.spec.specs.Text.{replaced}
 use Rattle.rope_read.specs.Text.{text}
 use Rattle.rope_text.proofs.rope_text.RopeText.replace.Goals as goal
 

@@ -1,5 +1,4 @@
 use Rattle.std.proofs.Common.{◌≡◌, drop, take, ◌++◌, MatchResult, subst}
-use Rattle.spec.specs.Text.{replaced, copies}
 use Rattle.rope_read.specs.Text.{text}
 use Rattle.rope_text.proofs.rope_text.RopeText.rotate.Goals as goal
 
