@@ -2,12 +2,11 @@
 //! and what was sent is held to the bound.
 #![tactic(auto)]
 
-mod dice;
 mod picture;
 mod screen;
 
-use crate::dice::Dice;
 use crate::screen::Screen;
+use dice::Dice;
 
 const SCREENS: u32 = 2_000;
 

@@ -1,5 +1,5 @@
 //! A picture that changes.
-use crate::dice::Dice;
+use dice::Dice;
 use pictures::{Position, Size, Snapshot};
 use std::alloc::{AllocError, Global};
 
@@ -19,8 +19,8 @@ fn cell(dice: &mut Dice) -> u8 {
 }
 
 fn place(dice: &mut Dice, size: Size) -> Position {
-    let row = dice.below(size.rows.max(1));
-    let column = dice.below(size.columns.max(1));
+    let row = dice.below(size.rows.max(1).into()) as u16;
+    let column = dice.below(size.columns.max(1).into()) as u16;
     Position { row, column }
 }
 

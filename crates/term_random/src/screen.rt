@@ -1,9 +1,9 @@
 //! A terminal, what it shall show, and what is sent to it.
 ghost use Rattle.std.specs.Prelude.{◌<◌};
 
-use crate::dice::Dice;
 use crate::picture::Cells;
 use anyhow::{Context, ensure};
+use dice::Dice;
 use pictures::{Size, bound, draw, paint};
 use plain_lines::Position;
 use plain_terminal::Terminal;
@@ -23,8 +23,8 @@ impl Screen {
     /// A terminal in the middle of a sequence, with cells that it may not keep, made to show a random picture.
     pub fn painted(heap: Global, dice: &mut Dice) -> anyhow::Result<Screen> {
         let size = Size {
-            rows: dice.below(9) + 2,
-            columns: dice.below(20) + 1,
+            rows: dice.below(9) as u16 + 2,
+            columns: dice.below(20) as u16 + 1,
         };
         let columns = size.columns as usize;
         let plain = plain_lines::Size::new(size.rows as usize, columns).context("no size")?;

@@ -1,4 +1,6 @@
 //! Numbers that look random, the same ones in each run.
+#![tactic(auto)]
+
 ghost use Rattle.std.specs.Prelude.{◌<◌};
 
 #[derive(Drop)]
@@ -19,10 +21,10 @@ impl Dice {
     }
 
     /// A number below another one.
-    pub fn below(&mut self, count: u16) -> u16
+    pub fn below(&mut self, count: u32) -> u32
         requires { 0 < count }
         ensures { result < count }
     {
-        ((self.roll() >> 11) % u64::from(count)) as u16
+        ((self.roll() >> 11) % u64::from(count)) as u32
     }
 }
