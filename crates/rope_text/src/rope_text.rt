@@ -95,6 +95,7 @@ impl<W: Words> RopeText<W> {
     /// The sum of all bytes.
     pub fn sum<S: Sum>(&mut self) -> u32
         ensures value { result ≡ S.Sum.sums self.old }
+        ensures small { result ≤ length self.old }
         ensures same { self.new ≡ self.old }
     {
         rope_read::sum::<S, W>(&mut self.words, self.root)
