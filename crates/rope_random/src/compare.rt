@@ -35,11 +35,7 @@ fn nth_line(bytes: &[u8], n: usize) -> Option<usize> {
 }
 
 /// Whether the two are the same, and the rope is in balance.
-pub fn compare(
-    heap: Global,
-    text: &mut RopeText<HeapWords>,
-    bytes: &[u8],
-) -> anyhow::Result<()> {
+pub fn compare(heap: Global, text: &mut RopeText<HeapWords>, bytes: &[u8]) -> anyhow::Result<()> {
     let len = agreed_len(text, bytes)?;
     let mut found = vec![in heap; 0u8; len as usize]?;
     text.read(0, &mut found);

@@ -32,7 +32,10 @@ fn play(rt: &HostRuntime, dice: &mut Dice, words: usize) -> anyhow::Result<Pair>
 fn main(rt: HostRuntime) -> anyhow::Result<()> {
     let mut dice = Dice::new();
     let roomy = play(&rt, &mut dice, ROOMY)?;
-    ensure!(roomy.refused == 0, "an edit was refused where there is room");
+    ensure!(
+        roomy.refused == 0,
+        "an edit was refused where there is room"
+    );
     let longest = roomy.longest;
     println!(rt; "{STEPS} edits of up to {longest} bytes: all as in a vector")?;
     let tight = play(&rt, &mut dice, TIGHT)?;
