@@ -57,7 +57,7 @@ pub fn rotated<W: Words>(words: &mut W, root: Ref, at: u32) -> Option<Ref>
     concat(words, cut.back, cut.front)
 }
 
-/// The bytes from place `from` on, by a rope of their own that is let go.
+/// Reads the bytes from place `from` on by a rope of their own that is let go, or none, where there is no room for one.
 pub fn sliced<W: Words>(words: &mut W, root: Ref, from: u32, into: &mut [u8]) -> Result<(), Full>
     requires rope { Holds (W.Words.row words.old) root.0 }
     requires inside { from + length into.old ≤ length (text (W.Words.row words.old) root.0) }

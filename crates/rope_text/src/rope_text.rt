@@ -38,11 +38,10 @@ impl<W: Words> Model for RopeText<W> {
 
 impl<W: Words> RopeText<W> {
     /// No text, in these words, whatever stood in them.
-    pub fn new(words: W) -> RopeText<W>
+    pub fn new(mut words: W) -> RopeText<W>
         requires { 128 ≤ length (W.Words.row words) }
         ensures { result ≡ [] }
     {
-        let mut words = words;
         cells::new(&mut words);
         RopeText { words, root: NONE }
     }
@@ -74,7 +73,7 @@ impl<W: Words> RopeText<W> {
         settle(&mut self.words, &mut self.root, made)
     }
 
-    /// The bytes from place `from` on, by a rope of their own.
+    /// Reads the bytes from place `from` on by a rope of their own, or none, where there is no room for one.
     pub fn slice(&mut self, from: u32, into: &mut [u8]) -> Result<(), Full>
         requires inside { from + length into.old ≤ length self.old }
         ensures same { self.new ≡ self.old }
