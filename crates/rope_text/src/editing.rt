@@ -1,5 +1,5 @@
 //! Ropes made beside the one that is held, and taken in its place.
-ghost use Rattle.std.specs.Prelude.{◌≡◌, ℕ, ◌+◌, ◌*◌, ◌<◌, ◌≤◌, ◌++◌, length, take, drop, MatchResult};
+ghost use Rattle.std.specs.Prelude.{◌≡◌, ℕ, ◌+◌, ◌*◌, ◌<◌, ◌≤◌, ◌++◌, length, take, drop, IfOk, MatchResult};
 ghost use Rattle.spec.specs.Text.{replaced, copies, part};
 ghost use Rattle.rope_read.specs.Text.{text};
 ghost use Rattle.rope_text.specs.Holding.{Stands, Holds, Offered, Settling};
@@ -8,7 +8,7 @@ use crate::rope_text::Full;
 use cells::{Ref, release, share};
 use rope::{concat, split};
 use rope_edit::{from_bytes, repeat, replace, slice};
-use rope_read::read;
+use rope_read::{len, read};
 use words::Words;
 
 /// Holds the rope that was made in the place of `root`, or `root` still, where there was no room for one.
@@ -70,4 +70,18 @@ pub fn sliced<W: Words>(words: &mut W, root: Ref, from: u32, into: &mut [u8]) ->
     read(words, part, 0, into);
     release(words, part);
     Ok(())
+}
+
+/// How many bytes a rope of those from place `from` up to place `to` has, which is made and let go.
+pub fn slice_len<W: Words>(words: &mut W, root: Ref, from: u32, to: u32) -> Result<u32, Full>
+    requires { Holds (W.Words.row words.old) root.0 }
+    ensures stands { Stands (W.Words.row words.new) root.0 (text (W.Words.row words.old) root.0) }
+    ensures value { IfOk result (λ n. n ≡ length (part (text (W.Words.row words.old) root.0) from to)) }
+{
+    let Some(part) = slice(words, root, from, to) else {
+        return Err(Full);
+    };
+    let bytes = len(words, part);
+    release(words, part);
+    Ok(bytes)
 }

@@ -1,11 +1,11 @@
 //! A text and the words in which it lies.
-ghost use Rattle.std.specs.Prelude.{◌≡◌, ℕ, ◌+◌, ◌*◌, ◌<◌, ◌≤◌, [], ◌++◌, true, length, take, drop, slice_index, MatchOption, MatchResult};
+ghost use Rattle.std.specs.Prelude.{◌≡◌, ℕ, ◌+◌, ◌*◌, ◌<◌, ◌≤◌, [], ◌++◌, true, length, take, drop, slice_index, IfOk, MatchOption, MatchResult};
 ghost use Rattle.spec.specs.Text.{replaced, copies, part};
 ghost use Rattle.rope_read.specs.Finding.{Absent, First, Last};
 ghost use Rattle.rope_read.specs.Reading.{Reached};
 
 use crate::balance;
-use crate::editing::{repeated, replaced, rotated, settle, sliced};
+use crate::editing::{repeated, replaced, rotated, settle, slice_len, sliced};
 use cells::{NONE, Ref};
 use rope_cells::Sum;
 use std::marker::Model;
@@ -80,6 +80,14 @@ impl<W: Words> RopeText<W> {
         ensures value { MatchResult result (λ _. into.new ≡ part self.old from (from + length into.old)) (λ _. into.new ≡ into.old) }
     {
         sliced(&mut self.words, self.root, from, into)
+    }
+
+    /// Makes a rope of the bytes from place `from` up to place `to`, says how many they are, and lets it go.
+    pub fn slice_len(&mut self, from: u32, to: u32) -> Result<u32, Full>
+        ensures same { self.new ≡ self.old }
+        ensures value { IfOk result (λ n. n ≡ length (part self.old from to)) }
+    {
+        slice_len(&mut self.words, self.root, from, to)
     }
 
     /// How many bytes there are.
