@@ -102,9 +102,7 @@ impl Bench {
             Edit::Line => {
                 let lines = self.text.sum::<LineEnds>();
                 let line = self.dice.below(lines.saturating_add(1));
-                if line <= lines {
-                    self.text.seek::<LineEnds>(line);
-                }
+                self.text.seek::<LineEnds>(line);
             }
         }
         Ok(())
