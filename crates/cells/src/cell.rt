@@ -9,7 +9,7 @@ use words::Words;
 pub struct Ref(pub(crate) u32);
 
 /// Refers to nothing.
-// Kept: 0 is the empty tree, a value like any other, and not the lack of one: what is empty is concatenated, cut and read as any rope is, and stored as one counted word; an `Option` would ask each caller for a case that it doesn't have.
+// Kept: 0 and no `Option`: a reference lies in the row as one counted word (fixed memory), and 0 is the empty tree, which is passed on, joined and cut as any other; it also ends the list of dead cells.
 pub const NONE: Ref = Ref(0);
 
 /// The cell whose first words are the heap's own.

@@ -2,7 +2,7 @@
 #![tactic(auto)]
 
 // Kept: cells named by their numbers where a program with a heap would have boxes, since all that the editor keeps lies in one row of counted words.
-// Kept: `kept`, `same` and `touches` are clauses of their own: a record such as `Released` says what became of the trees, and would take the touches before and after as two more parameters, for a bound that differs from call to call.
+// Kept: `kept`, `same` and `touches` are clauses of their own: the first holds of every call and the second of every reader, whatever trees are meant, and the records say what became of the trees.
 
 mod cell;
 mod content;

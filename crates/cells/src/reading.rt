@@ -6,7 +6,7 @@ use crate::cell::{LEFT, RIGHT, Ref, word};
 use crate::content::{Data, load, load_word};
 use words::Words;
 
-// Kept: two functions of a line each; one for both would take a side, and its clause would be a match on it.
+// Kept: `left` and `right` stay two, of a line each: one for both would take a side, and its clause would be a match on it.
 
 /// The left child of the node `p`.
 pub fn left<W: Words>(words: &mut W, p: Ref) -> Ref

@@ -8,6 +8,7 @@ use plain_lines::{Size, Window};
 use std::alloc::{AllocError, Global};
 use std::{fmt, mem};
 
+// Kept: `term_samples` has modes of its own, but the second editor shares no code with the first.
 #[derive(Clone, Copy)]
 pub enum Mode {
     // with the command as far as it is typed

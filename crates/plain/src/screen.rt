@@ -5,7 +5,7 @@ use crate::editor::Editor;
 use plain_lines::{Position, Size};
 use std::alloc::AllocError;
 
-// Kept: the first editor names this byte too, and its modes, but the second shares no code with it.
+// Kept: `term` names this byte too, but the second editor shares no code with the first.
 const CANCEL: u8 = 0x18;
 
 fn shown(byte: u8) -> u8

@@ -1,7 +1,6 @@
 //! What a byte means as a key where a command is typed.
 use crate::motion::Motion;
 
-// Kept: the first editor names this byte and such keys too, but the second shares no code with it.
 pub const ESCAPE: u8 = 0x1b;
 
 #[derive(Clone, Copy, PartialEq, Eq)]

@@ -3,7 +3,7 @@ ghost use Rattle.std.specs.Prelude.{◌≡◌, ◌-◌, ◌<◌, ◌≤◌, max,
 
 use plain_lines::Position;
 
-// Kept: the first editor names this byte too, but the second shares no code with it.
+// Kept: `plain_keys` names this byte as a key; sharing it would make the terminal depend on the keys for one constant.
 const ESCAPE: u8 = 0x1b;
 
 // Numbers stop here.

@@ -14,6 +14,7 @@ pub fn played(
     let size = Size::new(rows, columns).ok_or("no such size")?;
     let heap = rt.alloc();
     let mut editor = Editor::new(heap, Vec::from_slice(heap, text)?, size);
+    // Kept: the same loop as in the program `play`, of three lines; a function of the editor for it would say no more than `press`.
     for key in keys {
         editor.press(*key)?;
     }

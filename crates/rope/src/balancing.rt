@@ -18,6 +18,7 @@ fn rotate_double<W: Words>(words: &mut W, side: Side, a: Ref, b: Ref, c: Ref) ->
     ensures kept { Kept (W.Words.row words.old) (W.Words.row words.new) }
 {
     let (first, second) = halve(words, side, b);
+    // Kept: two references are let go here, which `or_release` does for one.
     let Some(x) = node_on(words, side, a, first) else {
         release_both(words, second, c);
         return None;

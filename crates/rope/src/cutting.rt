@@ -61,6 +61,7 @@ fn split_sized<W: Words>(words: &mut W, rope: Ref, size: u32, at: u32) -> Option
     }
     let middle = left_sum::<Bytes, W>(words, rope);
     let children = part(words, rope);
+    // Kept: the arms mirror each other, but what a cut has is a front and a back, and not two by a side.
     if at < middle {
         let cut = split_sized(words, children.left, middle, at);
         let cut = or_release(words, cut, children.right)?;

@@ -1,7 +1,7 @@
 //! Ropes of bytes in a heap of cells: making, joining and cutting them.
 #![tactic(auto)]
 
-// Kept: `kept`, `same` and `touches` are clauses of their own: as a field of a record each proof of that record would have to give them besides, while as clauses the check mostly finds them alone.
+// Kept: `kept` is a clause of its own: as a field of a record each proof of that record would have to give it besides, while as a clause the check mostly finds it alone.
 
 mod balancing;
 mod cutting;

@@ -47,7 +47,7 @@ pub fn node_on<W: Words>(words: &mut W, side: Side, first: Ref, second: Ref) -> 
 }
 
 /// A leaf of these bytes.
-// Kept: a leaf's bytes are a slice that is asked to be short, here and where two are made: a type for a leaf would be a copy of bytes that already lie in one piece.
+// Kept: a slice with its bound as a clause: a type that borrows it would be made, and its invariant proved, at each call.
 pub fn leaf<W: Words>(words: &mut W, bytes: &[u8]) -> Option<Ref>
     requires heap { Free (W.Words.row words.old) 0 }
     requires fits { length bytes.now ≤ 48 }

@@ -23,6 +23,7 @@ pub const LEFT_SUMS: usize = 7;
 pub const BASE: u32 = 64;
 
 /// The first data word of a leaf of these bytes: its sums, the first lowest.
+// Kept: as a `fold` the proof didn't close: that each step may be taken, and what comes of all of them.
 fn leaf_tag(bytes: &[u8]) -> u32
     requires { length bytes.now ≤ 48 }
     ensures { result ≡ packed (sums_of bytes.now) }
@@ -58,7 +59,7 @@ fn word_at(bytes: &[u8], k: usize) -> u32
 }
 
 /// The data words of a leaf of these bytes.
-// Kept: a slice with its bound as a clause: a `Leaf` in its place would be a copy of bytes that already lie in one piece.
+// Kept: a slice with its bound as a clause: a type that borrows it would be made, and its invariant proved, at each call.
 pub fn pack(bytes: &[u8]) -> Data
     requires { length bytes.now ≤ 48 }
     ensures value { result ≡ leaf_data bytes.now }

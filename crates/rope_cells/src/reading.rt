@@ -16,7 +16,7 @@ use words::Words;
 pub const NODE: u32 = 63;
 
 /// What balancing asks of a rope.
-// Kept: a yes or no beside the height, which only a leaf can say yes to; with an enum of leaf and node each comparison of heights would be a match.
+// Kept: a yes or no beside the height: what attaches and rotates compares heights of both kinds, and asks in one place alone whether a leaf is small.
 #[derive(Clone, Copy)]
 pub struct Shape {
     pub height: u32,
