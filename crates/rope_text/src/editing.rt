@@ -78,10 +78,10 @@ pub fn slice_len<W: Words>(words: &mut W, root: Ref, from: u32, to: u32) -> Resu
     ensures stands { Stands (W.Words.row words.new) root.0 (text (W.Words.row words.old) root.0) }
     ensures value { IfOk result (λ n. n ≡ length (part (text (W.Words.row words.old) root.0) from to)) }
 {
-    let Some(part) = slice(words, root, from, to) else {
+    let Some(taken) = slice(words, root, from, to) else {
         return Err(Full);
     };
-    let bytes = len(words, part);
-    release(words, part);
+    let bytes = len(words, taken);
+    release(words, taken);
     Ok(bytes)
 }
