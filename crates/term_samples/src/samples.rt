@@ -63,9 +63,7 @@ pub fn letter_inside(rt: &HostRuntime, text: &[Vec<u8>]) -> anyhow::Result<()> {
 pub fn join(rt: &HostRuntime, text: &[Vec<u8>]) -> anyhow::Result<()> {
     let upper = text.get(11).context("no line")?;
     let lower = text.get(12).context("no line")?;
-    let mut line = Vec::from_slice(rt.alloc(), upper)?;
-    line.push(b' ')?;
-    line.extend_from_slice(lower)?;
+    let line = [upper.as_slice(), b" ".as_slice(), lower.as_slice()].concat(rt.alloc())?;
     let joined = with_line(rt.alloc(), text, 11, 2, &line)?;
     let before = View {
         text,
