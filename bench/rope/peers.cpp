@@ -8,7 +8,7 @@
 #include <ext/rope>
 #include <string>
 
-// The generator that the program `rope_bench` uses, so that the places are the same.
+// The generator that the program `rope_bench` uses.
 static uint64_t state = 0x9e3779b97f4a7c15ull;
 static uint64_t roll() {
     state ^= state << 13;

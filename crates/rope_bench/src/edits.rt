@@ -1,6 +1,7 @@
 //! A large text of lines, and the edits of it that are measured.
 ghost use Rattle.std.specs.Prelude.{◌<◌};
 
+use anyhow::ensure;
 use dice::Dice;
 use rope_cells::LineEnds;
 use rope_text::RopeText;
@@ -11,9 +12,7 @@ use words::HeapWords;
 /// A line's bytes, its end among them.
 const WIDTH: u32 = 41;
 
-/// How many words there are for each byte, and besides.
-const WORDS_FOR_BYTE: usize = 1;
-
+/// There are as many words as bytes, and these besides.
 const WORDS_BESIDES: usize = 10_000_000;
 
 /// No text is longer.
@@ -50,7 +49,7 @@ pub struct Bench {
 }
 
 /// Lines of letters.
-fn source(heap: Global, bytes: u32) -> anyhow::Result<Vec<u8>> {
+pub fn source(heap: Global, bytes: u32) -> anyhow::Result<Vec<u8>> {
     let letters = (0..bytes).map(|i| {
         if i % WIDTH == WIDTH - 1 {
             b'\n'
@@ -62,14 +61,12 @@ fn source(heap: Global, bytes: u32) -> anyhow::Result<Vec<u8>> {
 }
 
 impl Bench {
-    pub fn new(heap: Global, bytes: u32) -> anyhow::Result<Bench> {
-        let size = WORDS_BESIDES.saturating_add(WORDS_FOR_BYTE.saturating_mul(bytes as usize));
-        let words = HeapWords::new(heap, size)?;
+    /// A text of these bytes.
+    pub fn new(heap: Global, bytes: &[u8]) -> anyhow::Result<Bench> {
+        ensure!(bytes.len() < LONGEST as usize, "too many bytes");
+        let words = HeapWords::new(heap, WORDS_BESIDES.saturating_add(bytes.len()))?;
         let mut text = RopeText::new(words);
-        let bytes = source(heap, bytes)?;
-        if bytes.len() < LONGEST as usize {
-            text.replace(0, 0, bytes.as_slice())?;
-        }
+        text.replace(0, 0, bytes)?;
         Ok(Bench {
             text,
             dice: Dice::new(),
@@ -97,7 +94,8 @@ impl Bench {
             }
             Edit::Slice => {
                 let tenth = self.text.len() / 10;
-                self.text.slice_len(at, at.saturating_add(tenth))?;
+                let from = at / 10 * 9;
+                self.text.slice_len(from, from.saturating_add(tenth))?;
             }
             Edit::Line => {
                 let lines = self.text.sum::<LineEnds>();

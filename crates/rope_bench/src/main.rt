@@ -4,7 +4,7 @@
 mod edits;
 mod memory;
 
-use crate::edits::{Bench, Edit};
+use crate::edits::{Bench, Edit, source};
 use std::alloc::Global;
 use std::env;
 use std::time::Instant;
@@ -29,7 +29,7 @@ fn size_asked(rt: &HostRuntime) -> anyhow::Result<Option<u32>> {
 
 /// Each edit some times on a small text.
 fn edit_small(heap: Global) -> anyhow::Result<u32> {
-    let mut bench = Bench::new(heap, SMALL)?;
+    let mut bench = Bench::new(heap, &source(heap, SMALL)?)?;
     for edit in Edit::ALL {
         for _ in 0..FEW {
             bench.edit(edit)?;
@@ -40,9 +40,10 @@ fn edit_small(heap: Global) -> anyhow::Result<u32> {
 
 /// Prints how many nanoseconds each edit of a text takes, and how many bytes of memory it takes for each of its own.
 fn measure(rt: &HostRuntime, bytes: u32) -> anyhow::Result<()> {
+    let bytes = source(rt.alloc(), bytes)?;
     let before = memory::resident_kilobytes(rt)?;
     let start = Instant::now(rt)?;
-    let mut bench = Bench::new(rt.alloc(), bytes)?;
+    let mut bench = Bench::new(rt.alloc(), &bytes)?;
     let took = start.elapsed(rt)?.as_nanos();
     println!(rt; "build {took}")?;
     let kilobytes = memory::resident_kilobytes(rt)?.saturating_sub(before);
