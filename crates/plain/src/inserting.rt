@@ -15,18 +15,18 @@ impl Editor {
 
     pub(crate) fn begin_inserting(&mut self, opening: Opening) -> Result<(), AllocError> {
         let here = self.buffer.here();
-        let start = here.line_start().at;
-        let end = here.line_end().at;
         let place = match opening {
             Opening::Before => here.at,
             Opening::Behind => here.right(1).at,
             Opening::FirstNonblank => here.first_nonblank().at,
-            Opening::LineEnd => end,
+            Opening::LineEnd => here.line_end().at,
             Opening::LineBelow => {
+                let end = here.line_end().at;
                 self.replace(end, end, b"\n")?;
                 end.saturating_add(1)
             }
             Opening::LineAbove => {
+                let start = here.line_start().at;
                 self.replace(start, start, b"\n")?;
                 start
             }

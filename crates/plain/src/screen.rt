@@ -52,9 +52,10 @@ impl Editor {
         let Some(start) = self.buffer.here().nth_line(line) else {
             return Vec::from_slice(self.heap, b"~");
         };
-        let first = start.right(self.window.left);
-        let end = first.right(self.window.size.columns());
-        first.text[first.at..end.at]
+        let end = start.line_end().at;
+        let from = start.at.saturating_add(self.window.left).min(end);
+        let to = from.saturating_add(self.window.size.columns()).min(end);
+        start.text[from..to]
             .iter()
             .map(|byte| shown(*byte))
             .collect(self.heap)

@@ -51,7 +51,10 @@ fn reach(here: Place, motion: Motion, count: Count) -> Option<Place>
         Motion::Right => elsewhere(here, here.right(times)),
         Motion::WordForward => word_reach(here, times),
         Motion::WordEnd => Some(word_end(here, times)?.clamp().right(1)),
-        Motion::Find(byte) => Some(find(here, byte, times)?.right(1)),
+        Motion::Find(byte) => {
+            let found = find(here, byte, times)?;
+            Some(found.to(found.at + 1))
+        }
         Motion::Till(byte) => find(here, byte, times),
         Motion::LineEnd => end_below(here, times),
         // these motions keep to no column
@@ -66,9 +69,11 @@ fn lines_between(one: Place, other: Place) -> Extent
     ensures behind { (one.entry.at ≤ result.to) × (other.entry.at ≤ result.to) }
     ensures within { result.to ≤ length one.entry.text.now }
 {
+    let first = one.to(one.at.min(other.at));
+    let last = one.to(one.at.max(other.at));
     Extent {
-        from: one.line_start().at.min(other.line_start().at),
-        to: one.line_end().at.max(other.line_end().at),
+        from: first.line_start().at,
+        to: last.line_end().at,
         shape: Shape::Lines,
     }
 }

@@ -73,13 +73,13 @@ fn to_line(here: Place, number: usize) -> Place
 pub fn find(here: Place, byte: u8, count: usize) -> Option<Place>
     ensures { IfSome result (λ p. (p.text.now ≡ here.entry.text.now) × (here.entry.at < p.at) × (p.at < length p.text.now)) }
 {
-    let (at, _) = here.text[..here.line_end().at]
+    let (behind, _) = here.text[here.at..here.line_end().at]
         .iter()
         .enumerate()
-        .skip(here.at + 1)
+        .skip(1)
         .filter(|(_, other)| **other == byte)
         .nth(count.saturating_sub(1))?;
-    Some(here.to(at))
+    Some(here.to(here.at + behind))
 }
 
 // Where the cursor goes by a motion; none where it can't be done. `column` is the one to keep to.
@@ -101,6 +101,9 @@ pub fn destination(here: Place, column: usize, motion: Motion, count: Count) -> 
         Motion::ToLine => Some(to_line(here, count.given().unwrap_or(usize::MAX))),
         Motion::ToFirstLine => Some(to_line(here, times)),
         Motion::Find(byte) => find(here, byte, times),
-        Motion::Till(byte) => Some(find(here, byte, times)?.left(1)),
+        Motion::Till(byte) => {
+            let found = find(here, byte, times)?;
+            Some(found.to(found.at - 1))
+        }
     }
 }

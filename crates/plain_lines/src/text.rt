@@ -63,7 +63,7 @@ impl<'a> Place<'a> {
         ensures value { result ≡ count_by (λ byte. byte == 10) (take self.entry.at self.entry.text.now) }
     {
         let before = &self.text[..self.at];
-        before.iter().filter(|byte| **byte == b'\n').count()
+        before.iter().map(|byte| usize::from(*byte == b'\n')).sum()
     }
 
     // How many bytes of its line are before it.
@@ -130,7 +130,9 @@ impl<'a> Place<'a> {
         ensures within { result.at ≤ self.entry.at }
         ensures near { self.entry.at ≤ result.at + 1 }
     {
-        if self.at > self.line_start().at && self.at == self.line_end().at {
+        let begins = self.at == 0 || self.text[self.at - 1] == b'\n';
+        let ends = self.at == self.text.len() || self.text[self.at] == b'\n';
+        if ends && !begins {
             self.to(self.at - 1)
         } else {
             self
