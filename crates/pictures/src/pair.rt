@@ -34,6 +34,22 @@ impl<'a> Pair<'a> {
         })
     }
 
+    /// One picture as both, of which the cells are looked at once.
+    fn of_one(size: Size, shot: Snapshot<'a>) -> Result<Pair<'a>, Fault>
+        ensures shown { IsOk result ↔ IsShown size shot.entry }
+        ensures fault { IfErr result (λ e. e ≡ Fault.NoPicture) }
+        ensures holds { IfOk result (λ p. (p.size ≡ size) × (p.before.cells.now ≡ shot.entry.cells.now) × (p.before.cursor ≡ shot.entry.cursor) × (p.after.cells.now ≡ shot.entry.cells.now) × (p.after.cursor ≡ shot.entry.cursor)) }
+    {
+        if !valid(size, shot) {
+            return Err(Fault::NoPicture);
+        }
+        Ok(Pair {
+            size,
+            before: shot,
+            after: shot,
+        })
+    }
+
     /// How many rows differ.
     fn differing_rows(&self) -> usize
         ensures few { result ≤ self.now.size.rows }
@@ -103,10 +119,10 @@ pub fn draw<'a>(
     ensures done { IfOk result (λ n. RedrawDone (shown size before.entry) (shown size after.entry) size.columns (length out.old) out.new n) }
 {
     let columns = size.columns as usize;
-    let mut pair = Pair::new(size, before, after)?;
     if old.len() != columns || new.len() != columns {
         return Err(Fault::NoPicture);
     }
+    let mut pair = Pair::new(size, before, after)?;
     redraw(&mut pair, out, old, new).ok_or(Fault::NoRoom)
 }
 
@@ -116,10 +132,10 @@ pub fn paint(size: Size, after: Snapshot, new: &mut [u8], out: &mut [u8]) -> Res
     ensures no_room { IsErrOf result Fault.NoRoom → length out.old < paint_cost size.rows size.columns }
     ensures done { IfOk result (λ n. RepaintDone size.rows size.columns (shown size after.entry) (length out.old) out.new n) }
 {
-    let mut pair = Pair::new(size, after, after)?;
     if new.len() != size.columns as usize {
         return Err(Fault::NoPicture);
     }
+    let mut pair = Pair::of_one(size, after)?;
     repaint(&mut pair, out, new).ok_or(Fault::NoRoom)
 }
 
