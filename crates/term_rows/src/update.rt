@@ -59,7 +59,7 @@ pub fn shortest_update(old: &[u8], new: &[u8]) -> Option<Update>
     ensures { MatchOption result (old.now ≡ new.now) (λ u. Shortest old.now new.now u.from u.to u.clear) }
 {
     let from = first_difference(old, new)?;
-    let clear_end = blank_from(new).max(from);
+    let clear_end = from + blank_from(&new[from..]);
     Some(shorter(from, same_from(old, new), clear_end))
 }
 
