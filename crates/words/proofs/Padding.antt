@@ -1,6 +1,6 @@
 -- Laws of a list with zeros behind it.
-use Rattle.std.proofs.Common.{◌≡◌, ℕ, ◌+◌, ◌-◌, ◌<◌, ◌≤◌, List, [], ◌++◌, length, get_or, take, set, replicate, sym, refl, ap, ◌∙◌, inl, inr, append_assoc, arith}
-use Rattle.std.proofs.lemmas.List.{append-nil, take_all, length-append, length-replicate, get_or_append_left, get_or-append_right, get_or-replicate, get_or_past, replicate-append-replicate, set-append_left, length-set}
+use Rattle.std.proofs.Common.{◌≡◌, ℕ, ◌+◌, ◌-◌, ◌<◌, ◌≤◌, List, [], ◌∷◌, ◌++◌, length, get_or, set, sym, refl, ap, ◌∙◌, inl, inr, append_assoc, arith}
+use Rattle.std.proofs.lemmas.List.{append-nil, length-append, length-replicate, get_or_append_left, get_or-append_right, get_or-replicate, get_or_past, replicate-append-replicate, set-append_left, length-set}
 use Rattle.std.proofs.lemmas.Bool.{cases_lt}
 use Rattle.words.specs.Padded.{padded, zeros}
 
@@ -15,6 +15,10 @@ zeros_append m n = replicate-append-replicate m n 0
 pub zeros_none : zeros 0 ≡ []
 unfolding zeros
 zeros_none = refl
+
+zeros_one : zeros 1 ≡ 0 ∷ []
+unfolding zeros
+zeros_one = refl
 
 zeros_get : (n i : ℕ) → get_or (zeros n) i 0 ≡ 0
 unfolding zeros
@@ -53,10 +57,11 @@ padded_enough xs n h =
     let none : n - length xs ≡ 0 = omega arith in
     ap (λ z. xs ++ zeros z) none ∙ ap (λ zs. xs ++ zs) zeros_none ∙ append-nil xs
 
--- what `resize` gives
-pub padded_resize : (xs : List ℕ) (k n : ℕ) → k ≡ length xs → k ≤ n → take n xs ++ replicate (n - k) 0 ≡ padded xs n
-unfolding zeros
-padded_resize xs k n e h = rw e (ap (λ ys. ys ++ replicate (n - length xs) 0) (take_all n xs (omega arith)))
+pub padded_push : (xs : List ℕ) (n : ℕ) → length xs < n → padded (xs ++ 0 ∷ []) n ≡ padded xs n
+padded_push xs n h =
+    let one : (length xs + 1) - length xs ≡ 1 = omega arith in
+    let pushed : padded xs (length xs + 1) ≡ xs ++ 0 ∷ [] = ap (λ z. xs ++ zeros z) one ∙ ap (λ zs. xs ++ zs) zeros_one in
+    ap (λ zs. padded zs n) (sym pushed) ∙ padded_more xs (length xs + 1) n (omega arith)
 
 pub padded_set : (xs : List ℕ) (n i x : ℕ) → i < length xs → padded (set xs i x) n ≡ set (padded xs n) i x
 padded_set xs n i x h = rw length-set (sym (set-append_left xs (zeros (n - length xs)) i x h))

@@ -82,14 +82,16 @@ fn overwrite(items: &mut Vec<u32>, i: usize, x: u32)
 }
 
 /// Zeros behind the items up to `n` of them, for which there is room.
+// Kept: a loop and no `resize`, which doesn't promise that the memory stays the one that was reserved.
+#[tactic(auto, using(crate::proofs::Padding::padded_push, crate::proofs::Padding::padded_enough))]
 fn fill_up(items: &mut Vec<u32>, n: usize)
     requires { n ≤ vec_capacity items.old }
     ensures items { items.new.items ≡ padded items.old.items n }
     ensures long { n ≤ vec_len items.new }
-    ensures capacity { vec_capacity items.old ≤ vec_capacity items.new }
+    ensures capacity { vec_capacity items.new ≡ vec_capacity items.old }
 {
-    if items.len() < n {
-        items.resize(n, 0).unwrap();
+    while items.len() < n {
+        items.push_reserved(0);
     }
 }
 
@@ -123,7 +125,7 @@ impl Words for HeapWords {
         requires { i < length self.old.row }
         ensures written { self.new.row ≡ slice_set self.old.row i x }
         ensures touches { self.new.touched ≡ touched_once self.old.touched }
-        ensures reserved { self.old.reserved ≤ self.new.reserved }
+        ensures reserved { self.new.reserved ≡ self.old.reserved }
         ensures bounds { WithinBounds self.new }
     {
         touch(&mut self.touches);
