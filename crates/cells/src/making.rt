@@ -6,6 +6,7 @@ ghost use Rattle.cells.specs.Steps.{Kept, Making, Made, Dropped, Reusing, Refuse
 use crate::cell::{COUNT, FIRST_DEAD, HEADER, LEFT, LINK, RIGHT, Ref, TAKEN, word, write};
 use crate::content::{Data, load, store};
 use crate::holding::{release, share};
+use crate::reading::{left_of, right_of};
 use words::Words;
 
 /// No more cells than this, so that each count fits a word.
@@ -34,8 +35,8 @@ fn children_of<W: Words>(words: &mut W, p: Ref) -> Children
     ensures same { W.Words.row words.new ≡ W.Words.row words.old }
     ensures touches { W.touched words.new ≤ W.touched words.old + 2 }
 {
-    let left = Ref(word(words, p, LEFT));
-    let right = Ref(word(words, p, RIGHT));
+    let left = left_of(words, p);
+    let right = right_of(words, p);
     Children { left, right }
 }
 

@@ -15,9 +15,9 @@ loop-k-preserved g c =
     let p = c.args.p.0 in
     let k = c.loop-k.k in
     let long : length w ≡ 13 = search rules in
-    let written : row c.write.new.words ≡ put (over m (16 * p + 3) (take k w)) p (3 + k) (get_or w k 0) = cc in
+    let written : row c.store_word.new.words ≡ put (over m (16 * p + 3) (take k w)) p (3 + k) (get_or w k 0) = cc in
     record {
       written = written ∙ data_more m w p k (omega arith) (omega (arith, c.requires.within));
-      long = c.write.ensures.long ∙ c.loop-k.invariant.long;
-      touches = omega (arith, c.write.ensures.touches, c.loop-k.invariant.touches);
+      long = c.store_word.ensures.long ∙ c.loop-k.invariant.long;
+      touches = omega (arith, c.store_word.ensures.touches, c.loop-k.invariant.touches);
     }

@@ -8,7 +8,7 @@ returns g c =
     let m = g.W.Words.row c.args.words.now in
     let p = c.args.p.0 in
     record {
-      lent = record { lent = λ u v w rest h lent. subst (λ z. Lent m z v) (sym c.word.ensures.value) (lend_right m p u v w rest h lent) };
-      same = c.word.ensures.same;
-      touches = c.word.ensures.touches;
+      lent = record { lent = λ u v w rest h lent. subst (λ z. Lent m z v) (sym c.right_of.ensures.value) (lend_right m p u v w rest h lent) };
+      same = c.right_of.ensures.same;
+      touches = c.right_of.ensures.touches;
     }
