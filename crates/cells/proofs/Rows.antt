@@ -1,9 +1,9 @@
 -- Laws of `cell`, `at`, `put`, `over` and `state`.
-use Rattle.std.proofs.Common.{◌≡◌, ℕ, ◌+◌, ◌-◌, ◌*◌, ◌<◌, ◌≤◌, ◌≢◌, List, [], ◌∷◌, ◌++◌, length, get_or, take, drop, set, sym, refl, ap, ◌∙◌, inl, inr, arith}
+use Rattle.std.proofs.Common.{◌≡◌, ℕ, ◌+◌, ◌-◌, ◌*◌, ◌<◌, ◌≤◌, ◌≢◌, List, [], ◌∷◌, ◌++◌, length, get_or, take, drop, set, replicate, sym, refl, ap, ◌∙◌, inl, inr, arith}
 use Rattle.std.proofs.lemmas.Bool.{cases_lt}
 use Rattle.std.proofs.Math.Seq.{take-set-lt}
-use Rattle.std.proofs.lemmas.List.{length-set, length-take, length-take-le, length-drop, get_or-set_same, get_or-set_other, drop-set-add, ext_get_or, length-append, get_or_append_left, get_or-append_right, get_or-take, get_or-drop, drop-append-le, take-append-le}
-use Rattle.cells.specs.Layout.{cell, at, put, over, filled, state}
+use Rattle.std.proofs.lemmas.List.{length-set, length-take, length-take-le, length-drop, get_or-set_same, get_or-set_other, drop-set-add, ext_get_or, length-append, get_or_append_left, get_or-append_right, get_or-take, get_or-drop, drop_more, set_at, replicate_more, length-replicate, append_assoc, drop-append-le, take-append-le}
+use Rattle.cells.specs.Layout.{cell, at, put, over, filled, state, cleared}
 use Rattle.cells.proofs.Lists.{part_same, get_or_part, length_over, get_or_over_below, get_or_over, get_or_over_past, over_more}
 
 pub length_put : (m : List ℕ) (p k x : ℕ) → length (put m p k x) ≡ length m
@@ -135,6 +135,18 @@ module _ (m w : List ℕ) (p l r : ℕ) (thirteen : length w ≡ 13) (long : 16 
       (cell_put (put (put m p 0 1) p 1 l) p 2 r (omega arith)
       ∙ ap (λ c. set c 2 r) (cell_put (put m p 0 1) p 1 l (omega arith) ∙ ap (λ c. set c 1 l) (cell_put m p 0 1 (omega arith))))
       ∙ ap (λ c. c ++ w) (three_set (cell m p) 1 l r (omega (arith, length_cell m p long)))
+
+-- zeros from the front on
+pub clear_more : (m : List ℕ) (i : ℕ) → i < length m → set (cleared m i) i 0 ≡ cleared m (i + 1)
+clear_more m i lt =
+    let zs : List ℕ = replicate i 0 in
+    ap (λ ys. set (zs ++ ys) i 0) (drop_more m i 0 lt)
+    ∙ set_at zs (get_or m i 0) (drop (i + 1) m) 0 i (length-replicate i 0)
+    ∙ sym (append_assoc zs (0 ∷ []) (drop (i + 1) m))
+    ∙ ap (λ ys. ys ++ drop (i + 1) m) (replicate_more i 0)
+
+pub length_cleared : (m : List ℕ) (i : ℕ) → i ≤ length m → length (cleared m i) ≡ length m
+length_cleared m i h = simp (length-append, length-replicate, length-drop) (omega arith)
 
 -- a write to the state
 module _ (m : List ℕ) (i x : ℕ) (lt : i < 112) where
