@@ -1,5 +1,5 @@
 -- Bytes packed into words come out again, and so do sums packed into one.
-use Rattle.std.proofs.Common.{◌≡◌, ℕ, zero, suc, ◌+◌, ◌*◌, ◌/◌, ◌%◌, ◌^◌, ◌<◌, ◌≤◌, List, [], ◌∷◌, length, get_or, drop, sym, refl, ap, ◌∙◌, ⊎_elim, arith}
+use Rattle.std.proofs.Common.{◌≡◌, ℕ, zero, suc, ◌+◌, ◌*◌, ◌/◌, ◌%◌, ◌^◌, ◌<◌, ◌≤◌, List, [], ◌∷◌, length, get_or, drop, sym, refl, ap, ◌∙◌, ⊎_elim, pow-suc, add-one, arith}
 use native.Mathlib.Nat.{pow-succ', div-div-eq-div-mul, zero-div}
 use Rattle.std.proofs.lemmas.List.{drop_more}
 use Rattle.std.proofs.lemmas.Bool.{cases_eq}
@@ -85,9 +85,20 @@ digit_pack [] (suc k) h = digit_none (suc k)
 digit_pack (x ∷ xs) zero h = digit_first x (pack xs) h.0
 digit_pack (x ∷ xs) (suc k) h = digit_next x (pack xs) k h.0 ∙ digit_pack xs k h.1
 
+-- one digit less
+pub divided_none : (w : ℕ) → w ≡ w / 64 ^ 0
+divided_none w = omega arith
+
+pub divided_more : (w k : ℕ) → (w / 64 ^ k) / 64 ≡ w / 64 ^ (k + 1)
+divided_more w k = div-div-eq-div-mul w (64 ^ k) 64 ∙ ap (λ z. w / z) (sym (ap (λ z. 64 ^ z) (add-one k) ∙ pow-suc 64 k))
+
 pub digit_is : (w k : ℕ) → (w / 64 ^ k) % 64 ≡ digit w k
 unfolding digit
 digit_is w k = refl
+
+pub pack_nil : pack [] ≡ 0
+unfolding pack
+pack_nil = refl
 
 pub pack_more : (xs : List ℕ) (k : ℕ) → k < length xs → pack (drop k xs) ≡ 64 * pack (drop (k + 1) xs) + get_or xs k 0
 unfolding pack
@@ -99,3 +110,19 @@ pack_drop [] zero = omega arith
 pack_drop [] (suc k) = omega arith
 pack_drop (x ∷ xs) zero = omega arith
 pack_drop (x ∷ xs) (suc k) = omega (arith, pack_drop xs k)
+
+pub byte_at_0 : (w j : ℕ) → j ≡ 0 → w % 256 ≡ byte_of w j
+unfolding byte_of
+byte_at_0 w j e = let z : w % 256 ≡ (w / 1) % 256 = omega arith in z ∙ sym (ap (byte_of w) e)
+
+pub byte_at_1 : (w j : ℕ) → j ≡ 1 → (w / 256) % 256 ≡ byte_of w j
+unfolding byte_of
+byte_at_1 w j e = sym (ap (byte_of w) e)
+
+pub byte_at_2 : (w j : ℕ) → j ≡ 2 → (w / 65536) % 256 ≡ byte_of w j
+unfolding byte_of
+byte_at_2 w j e = sym (ap (byte_of w) e)
+
+pub byte_at_3 : (w j : ℕ) → j ≡ 3 → (w / 16777216) % 256 ≡ byte_of w j
+unfolding byte_of
+byte_at_3 w j e = sym (ap (byte_of w) e)

@@ -1,5 +1,6 @@
 -- Sums of bytes: those of two parts add up to those of the whole, and each is at most the number of bytes.
-use Rattle.std.proofs.Common.{◌≡◌, ℕ, zero, suc, ◌+◌, ◌^◌, ◌<◌, ◌≤◌, List, [], ◌∷◌, ◌++◌, length, refl, arith, length-append}
+use Rattle.std.proofs.Common.{◌≡◌, ℕ, zero, suc, ◌+◌, ◌^◌, ◌<◌, ◌≤◌, cond, eqb, List, [], ◌∷◌, ◌++◌, length, get_or, take, drop, refl, ◌∙◌, arith, length-append}
+use Rattle.std.proofs.lemmas.List.{take_more}
 use Rattle.std.proofs.lemmas.Bool.{cond_both}
 use Rattle.spec.specs.Bytes.{is_newline}
 use Rattle.spec.specs.Text.{newlines}
@@ -54,6 +55,20 @@ sum_first a = refl
 pub sums_digits : (a : List ℕ) → length a < 64 → Digits (sums_of a)
 unfolding sums_of Digits
 sums_digits a h = (h, (omega (arith, newlines_few a), (omega arith, (omega arith, (omega arith, (omega arith, tt))))))
+
+pub newlines_none : newlines [] ≡ 0
+unfolding newlines
+newlines_none = refl
+
+-- one byte more
+pub newlines_more : (a : List ℕ) (i : ℕ) → i < length a → newlines (take (i + 1) a) ≡ newlines (take i a) + cond (eqb (get_or a i 0) 10) 1 0
+unfolding newlines
+newlines_more a i h = rw (take_more a i 0 h) (newlines_append (take i a) (get_or a i 0 ∷ []) ∙ omega arith)
+
+-- behind the sums the digits are 0
+pub pack_unused : (a : List ℕ) → pack (drop used (sums_of a)) ≡ 0
+unfolding sums_of pack
+pack_unused a = refl
 
 pub pack_small : (a : List ℕ) → length a < 64 → pack (sums_of a) < 2 ^ 24
 unfolding sums_of pack
