@@ -1,7 +1,8 @@
 -- What is packed and unpacked, as lists.
-use Rattle.std.proofs.Common.{◌≡◌, ℕ, zero, suc, ◌+◌, ◌-◌, ◌*◌, ◌/◌, ◌%◌, ◌^◌, ◌<◌, ◌≤◌, max, List, [], ◌∷◌, ◌++◌, length, get_or, take, drop, reverse, sym, refl, ap, ◌∙◌, ⊎_elim, arith, length-append, length-take, length-drop, take_all}
+use Rattle.std.proofs.Common.{◌≡◌, ℕ, zero, suc, ◌+◌, ◌-◌, ◌*◌, ◌/◌, ◌%◌, ◌^◌, ◌<◌, ◌≤◌, max, min, List, [], ◌∷◌, ◌++◌, length, get_or, take, drop, reverse, sym, refl, ap, ◌∙◌, ⊎_elim, arith, length-append, length-take, length-drop, take_all}
+use borrow.Rule.Slice.PartMut.{put_mid}
 use Rattle.std.proofs.lemmas.Bool.{cases_lt}
-use Rattle.std.proofs.lemmas.List.{ext_get_or, get_or_append_left, get_or-append_right, get_or_push, get_or-take, get_or-drop, take-append-le, drop_all, append-nil, length-reverse, get_or-reverse}
+use Rattle.std.proofs.lemmas.List.{ext_get_or, get_or_append_left, get_or-append_right, get_or-take, take-append-le, drop_all, append-nil, length-reverse, get_or-reverse}
 use Rattle.std.proofs.lemmas.Grind.{get_or_default_zero}
 use Rattle.std.proofs.Math.Nat.{one-le-pow, pow-le-pow_right}
 use Rattle.std.specs.Int.{w32, to_le_bytes, from_le_bytes}
@@ -9,7 +10,9 @@ use Rattle.ropes.specs.Rope.{Rope, bytes, height, leaf_max, Octets}
 use Rattle.ropes.specs.Layout.{sums_of, sum_at, word, pack, digit, byte_of, word_at, node_tag, leaf_data, node_data}
 use Rattle.ropes.proofs.Packs.{digit_pack, pack_more, pack_drop, byte_of_word_at, length_words_from, get_or_words_from}
 use Rattle.ropes.proofs.Sums.{length_sums, sum_first, sums_digits, sum_append, pack_small}
+use Rattle.rope_cells.specs.LeafBytes.{items, LeafIs}
 use Rattle.rope_cells.specs.Lending.{SummaryIs}
+use Rattle.rope_cells.specs.declared.leaf_bytes.Leaf.{Leaf}
 use Rattle.rope_cells.specs.declared.reading.Summary.{Summary}
 
 -- the digits of a leaf's tag, the highest first
@@ -92,34 +95,64 @@ le_byte n (suc (suc zero)) h = refl
 le_byte n (suc (suc (suc zero))) h = refl
 le_byte n (suc (suc (suc (suc i)))) h = absurd (omega arith)
 
--- the bytes of these words, so far, and one more
-pub one_more : (w ys : List ℕ) (k i x : ℕ)
-    → ((j : ℕ) → j < length ys → get_or ys j 0 ≡ byte_of (get_or w (j / 4) 0) (j % 4)) → length ys ≡ 4 * k + i → i < 4 → x ≡ get_or (to_le_bytes w32 (get_or w k 0)) i 0
-    → (j : ℕ) → j < length (ys ++ x ∷ []) → get_or (ys ++ x ∷ []) j 0 ≡ byte_of (get_or w (j / 4) 0) (j % 4)
-one_more w ys k i x before long lt is j h =
-    ⊎_elim
-    (λ (q : j < length ys). get_or_append_left ys (x ∷ []) 0 j q ∙ before j q)
-    (λ (q : length ys ≤ j).
-    let e : length ys ≡ j = omega (arith, length-append ys (x ∷ [])) in
-    let a : k ≡ j / 4 = omega arith in
-    let b : i ≡ j % 4 = omega arith in
-    get_or_push ys x 0 j e ∙ (is ∙ (le_byte (get_or w k 0) i lt ∙ (ap (λ z. byte_of (get_or w z 0) i) a ∙ ap (byte_of (get_or w (j / 4) 0)) b))))
-    (cases_lt j (length ys))
+-- four bytes more, the bytes of word k
+pub four_more : (w old ys : List ℕ) (k : ℕ) → length old ≡ 48 → k < 12 → ys ≡ to_le_bytes w32 (get_or w (1 + k) 0)
+    → ((j : ℕ) → j < 4 * k → get_or old j 0 ≡ byte_of (get_or w (1 + j / 4) 0) (j % 4))
+    → (length (put_mid (4 * k) 4 old ys) ≡ 48) × ((j : ℕ) → j < 4 * (k + 1) → get_or (put_mid (4 * k) 4 old ys) j 0 ≡ byte_of (get_or w (1 + j / 4) 0) (j % 4))
+four_more w old ys k long lt is before =
+    let at = 4 * k in
+    let front = take at old in
+    let rest = drop 4 (drop at old) in
+    let few : length ys ≡ 4 = ap length is in
+    let n : length front ≡ at = omega (arith, length-take at old) in (
+      omega (arith, length-append front (ys ++ rest), length-append ys rest, length-drop 4 (drop at old), length-drop at old),
+      λ j h.
+          ⊎_elim
+          (λ (q : j < at). get_or_append_left front (ys ++ rest) 0 j (omega arith) ∙ (get_or-take at old j 0 q ∙ before j q))
+          (λ (q : at ≤ j).
+          let i : j - at < 4 = omega arith in
+          let a : 1 + k ≡ 1 + j / 4 = omega arith in
+          let b : j - at ≡ j % 4 = omega arith in
+          get_or-append_right front (ys ++ rest) at j 0 n q
+          ∙ (get_or_append_left ys rest 0 (j - at) (omega arith)
+          ∙ (ap (λ z. get_or z (j - at) 0) is ∙ (le_byte (get_or w (1 + k) 0) (j - at) i ∙ (ap (λ z. byte_of (get_or w z 0) (j - at)) a ∙ ap (byte_of (get_or w (1 + j / 4) 0)) b)))))
+          (cases_lt j at),
+    )
 
 -- the bytes of a leaf's words, as many as its tag says
-pub bytes_back : (w ys xs : List ℕ) → ((j : ℕ) → j < length ys → get_or ys j 0 ≡ byte_of (get_or (take 12 (drop 1 w)) (j / 4) 0) (j % 4)) → length ys ≡ leaf_max
-    → length xs ≤ leaf_max → Octets xs → w ≡ leaf_data xs → take (get_or w 0 0 % 64) ys ≡ xs
-bytes_back w ys xs each long few o is =
+pub bytes_back : (w xs : List ℕ) (s : Leaf) → length s.bytes ≡ 48 → ((j : ℕ) → j < 48 → get_or s.bytes j 0 ≡ byte_of (get_or w (1 + j / 4) 0) (j % 4)) → s.len ≡ min (get_or w 0 0 % 64) 48
+    → length xs ≤ leaf_max → Octets xs → w ≡ leaf_data xs → LeafIs s xs
+bytes_back w xs s long each len few o is =
     let tag : get_or w 0 0 % 64 ≡ length xs = ap (λ z. get_or z 0 0 % 64) is ∙ (ap (λ z. z % 64) (leaf_first xs) ∙ leaf_tag_low xs few) in
-    let n = length-take (length xs) ys in
-    rw tag (ext_get_or 0 (take (length xs) ys) xs (omega arith)
-    (λ i h.
-    let lt : i < length xs = omega arith in
-    let at : 4 * (i / 4) + i % 4 ≡ i = omega arith in
-    get_or-take (length xs) ys i 0 lt
-    ∙ (each i (omega arith)
-    ∙ (ap (λ z. byte_of z (i % 4)) (get_or-take 12 (drop 1 w) (i / 4) 0 (omega arith) ∙ (get_or-drop 1 w (i / 4) 0 ∙ (ap (λ z. get_or z (1 + i / 4) 0) is ∙ leaf_word xs (i / 4) (omega arith))))
-    ∙ (byte_of_word_at xs o (i / 4) (i % 4) (omega arith) ∙ ap (λ z. get_or xs z 0) at)))))
+    record {
+      long = omega (arith, len, tag);
+      few = few;
+      room = long;
+      each = λ i h.
+          let at : 4 * (i / 4) + i % 4 ≡ i = omega arith in
+          each i h
+          ∙ (ap (λ z. byte_of z (i % 4)) (ap (λ z. get_or z (1 + i / 4) 0) is ∙ leaf_word xs (i / 4) (omega arith))
+          ∙ (byte_of_word_at xs o (i / 4) (i % 4) (omega arith) ∙ ap (λ z. get_or xs z 0) at));
+    }
+
+pub items_are : (s : Leaf) → items s ≡ take s.len s.bytes
+unfolding items
+items_are s = refl
+
+-- the bytes of a leaf as a list
+pub leaf_items : (s : Leaf) (xs : List ℕ) → LeafIs s xs → items s ≡ xs
+unfolding items
+leaf_items s xs is =
+    let long = is.long in
+    let few = is.few in
+    let room = is.room in
+    let n = length-take s.len s.bytes in
+    ext_get_or 0 (take s.len s.bytes) xs (omega arith)
+    (λ i h. let lt : i < s.len = omega arith in get_or-take s.len s.bytes i 0 lt ∙ is.each i (omega arith))
+
+pub items_few : (s : Leaf) → length (items s) ≤ 48
+unfolding items
+items_few s = let few = s.few in omega (arith, length-take s.len s.bytes)
 
 pub node_first : (u v : Rope) → get_or (node_data u v) 0 0 ≡ node_tag (max (height u) (height v) + 1)
 unfolding node_data

@@ -1,5 +1,6 @@
 pub mod Packed
 pub mod Coded
 pub mod Lending
+pub mod LeafBytes
 pub mod Leaves
 pub mod Tags

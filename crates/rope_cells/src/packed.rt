@@ -1,15 +1,14 @@
 //! The data words of a leaf, which are its sums as the digits of one word and its bytes four to a word, and those of a node.
 ghost use Rattle.std.specs.Prelude.{◌≡◌, ℕ, ◌+◌, ◌*◌, ◌<◌, ◌≤◌, max, List, length};
-ghost use Rattle.arrayvec.specs.ArrayVec.{array_vec_len};
 ghost use Rattle.ropes.specs.Rope.{Rope, leaf_max, Octets};
 ghost use Rattle.ropes.specs.Layout.{sums_of, word_at, pack as packed, digit, leaf_data, node_data as data_of_node};
+ghost use Rattle.rope_cells.specs.LeafBytes.{LeafIs};
 ghost use Rattle.rope_cells.specs.Packed.{Addable};
 ghost use Rattle.rope_cells.specs.Lending.{SummaryIs};
 
-use crate::leaves::Leaf;
+use crate::leaf_bytes::{LEAF_MAX, Leaf};
 use crate::reading::{NODE, Summary};
 use crate::sums::{Sums, sums_of};
-use arrayvec::ArrayVec;
 use cells::Data;
 use std::array;
 
@@ -72,19 +71,19 @@ pub fn pack(bytes: &[u8]) -> Data
     data
 }
 
-/// The bytes of the leaf with these data words.
+/// The bytes of the leaf with these data words; behind them are zeros.
 pub fn unpack(words: &Data) -> Leaf
-    ensures value { (xs : List ℕ) → length xs ≤ leaf_max → Octets xs → words.now ≡ leaf_data xs → result.items ≡ xs }
-    ensures few { array_vec_len result ≤ 48 }
+    ensures { (xs : List ℕ) → length xs ≤ leaf_max → Octets xs → words.now ≡ leaf_data xs → LeafIs result xs }
 {
-    let mut leaf = ArrayVec::new();
-    for word in &words[1..] {
-        for byte in word.to_le_bytes() {
-            leaf.push(byte);
-        }
+    let mut bytes = [0; LEAF_MAX];
+    for k in 0..12 {
+        bytes[4 * k..4 * k + 4].copy_from_slice(&words[1 + k].to_le_bytes());
     }
-    leaf.truncate((words[0] % BASE) as usize);
-    leaf
+    let len = (words[0] % BASE) as usize;
+    Leaf {
+        len: len.min(LEAF_MAX),
+        bytes,
+    }
 }
 
 /// The data words of a node of two ropes.

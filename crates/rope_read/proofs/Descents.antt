@@ -10,6 +10,7 @@ use Rattle.ropes.proofs.Ends.{inner_size}
 use Rattle.ropes.proofs.Cuts.{size_bytes}
 use Rattle.ropes.proofs.Depths.{height_low}
 use Rattle.rope_cells.specs.Coded.{code}
+use Rattle.rope_cells.specs.LeafBytes.{items}
 use Rattle.rope_cells.specs.Lending.{Lends, LendsSome, LendsChildren}
 use Rattle.rope_cells.specs.Leaves.{LendsLeaf}
 use Rattle.rope_cells.proofs.Codes.{children_lent, children_whole, children_few}
@@ -112,9 +113,9 @@ module _ {by of : List ℕ → ℕ} {m : List ℕ} {p n q x y : ℕ} (d : Down b
   abbrev pub down_some : LendsSome m q
   down_some = record { lends = d.lends; some = d.some }
 
-  pub located : (xs : List ℕ) → bytes d.lends.rope ≡ xs → (s : Spot) → s.leaf.items ≡ xs → s.by ≡ x → s.of ≡ y → Located by of (text m p) n s
+  pub located : (xs : List ℕ) → bytes d.lends.rope ≡ xs → (s : Spot) → items s.leaf ≡ xs → s.by ≡ x → s.of ≡ y → Located by of (text m p) n s
   located xs is s has is_x is_y =
-      let e : bytes d.lends.rope ≡ s.leaf.items = is ∙ sym has in
+      let e : bytes d.lends.rope ≡ items s.leaf = is ∙ sym has in
       record {
         before = d.before;
         behind = d.behind;

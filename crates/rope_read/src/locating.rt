@@ -9,7 +9,7 @@ use rope_cells::{Leaf, Sum, left_sum, read_leaf, shape_of};
 use words::Words;
 
 /// A leaf of a rope, and two sums of the bytes before it.
-#[derive(Drop)]
+#[derive(Clone, Copy)]
 pub struct Spot {
     pub leaf: Leaf,
     pub by: u32,

@@ -1,5 +1,6 @@
 //! The byte at a place, the sum of the bytes before a place, and the place at which a sum is reached.
 ghost use Rattle.std.specs.Prelude.{◌≡◌, ◌+◌, ◌<◌, ◌≤◌, length, take, slice_index};
+ghost use Rattle.rope_cells.specs.LeafBytes.{items};
 ghost use Rattle.rope_cells.specs.Lending.{Lends};
 ghost use Rattle.rope_read.specs.Text.{text};
 ghost use Rattle.rope_read.specs.Reading.{Reached};
@@ -39,8 +40,8 @@ pub fn prefix<S: Sum, W: Words>(words: &mut W, p: Ref, at: u32) -> u32
 
 /// The least number of bytes at the front of `part` that sum to `n`.
 fn reach_in<S: Sum>(part: &Leaf, n: u32) -> usize
-    requires { n ≤ S.Sum.sums part.now.items }
-    ensures { Reached S.Sum.sums part.now.items n result }
+    requires { n ≤ S.Sum.sums (items part.now) }
+    ensures { Reached S.Sum.sums (items part.now) n result }
 {
     let mut sum = 0;
     for (k, byte) in part.iter().enumerate() {

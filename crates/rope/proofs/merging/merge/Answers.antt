@@ -1,4 +1,5 @@
 use Rattle.std.proofs.Common.{◌≡◌, true, false, length, arith}
+use Rattle.rope_cells.specs.LeafBytes.{items}
 use Rattle.rope.specs.Merging.{stays}
 use Rattle.rope.proofs.Merges.{left_leaf, right_leaf, merge_free, merge_some, merged_node, merged_spread}
 use Rattle.rope.proofs.merging.merge.Goals as goal
@@ -13,7 +14,7 @@ pub returns-then-stay-clause-joins : goal.returns-then-stay-clause-joins
 returns-then-stay-clause-joins g c =
     let a = c.read_leaf-a.ensures in
     let b = c.read_leaf-b.ensures in
-    let stay : stays (length c.read_leaf-a.result.items) (length c.read_leaf-b.result.items) ≡ true = cc (c.len.ensures.value, c.len-2.ensures.value, c.if-stay.ensures) in
+    let stay : stays (length (items c.read_leaf-a.result)) (length (items c.read_leaf-b.result)) ≡ true = cc (c.len.ensures.value, c.len-2.ensures.value, c.if-stay.ensures) in
     let is_b = rw a.same at b.value in
     let last = rw (b.same, a.same) at c.node.ensures.joins in
     record { runs = λ x. merged_node x a.value is_b _ stay last (omega (arith, a.touches, b.touches)) }
@@ -33,7 +34,7 @@ returns-clause-joins g c =
     let a = c.read_leaf-a.ensures in
     let b = c.read_leaf-b.ensures in
     let r = c.release_both.ensures in
-    let go : stays (length c.read_leaf-a.result.items) (length c.read_leaf-b.result.items) ≡ false = cc (c.len.ensures.value, c.len-2.ensures.value, c.if-stay.ensures) in
+    let go : stays (length (items c.read_leaf-a.result)) (length (items c.read_leaf-b.result)) ≡ false = cc (c.len.ensures.value, c.len-2.ensures.value, c.if-stay.ensures) in
     let is_b = rw a.same at b.value in
     let gone = rw (b.same, a.same) at r.dropped in
     let long = rw (b.same, a.same) at r.kept.long in

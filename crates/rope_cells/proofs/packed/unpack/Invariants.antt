@@ -2,12 +2,5 @@ use Rattle.std.proofs.Common.{◌≡◌, ℕ, ◌+◌, ◌*◌, ◌/◌, ◌%◌
 use Rattle.ropes.specs.Layout.{byte_of}
 use Rattle.rope_cells.proofs.packed.unpack.Given as goal
 
-abbrev pub invariant-loop-byte : goal.invariant-loop-byte
-invariant-loop-byte l =
-    (length l.leaf.items ≡ 4 * l.word-index + l.byte-index)
-    × ((j : ℕ) → j < length l.leaf.items → get_or l.leaf.items j 0 ≡ byte_of (get_or l.word-items (j / 4) 0) (j % 4))
-
-abbrev pub invariant-loop-word : goal.invariant-loop-word
-invariant-loop-word l =
-    (length l.leaf.items ≡ 4 * l.word-index)
-    × ((j : ℕ) → j < length l.leaf.items → get_or l.leaf.items j 0 ≡ byte_of (get_or l.word-items (j / 4) 0) (j % 4))
+abbrev pub invariant-loop-k : goal.invariant-loop-k
+invariant-loop-k l = (length l.bytes ≡ 48) × ((j : ℕ) → j < 4 * l.k → get_or l.bytes j 0 ≡ byte_of (get_or l.words (1 + j / 4) 0) (j % 4))

@@ -1,6 +1,7 @@
 use Rattle.std.proofs.Common.{◌≡◌, ℕ, ◌<◌, ◌≤◌, List, sym, refl, ap, ◌∙◌, subst, arith, rules}
 use Rattle.cells.specs.Steps.{LeftRead, RightRead}
 use Rattle.ropes.specs.Rope.{bytes, height}
+use Rattle.rope_cells.specs.LeafBytes.{items}
 use Rattle.rope_cells.specs.Lending.{LendsSome, LendsChildren, ShapeIs}
 use Rattle.rope_cells.specs.Leaves.{LendsLeaf}
 use Rattle.rope_cells.specs.declared.reading.Shape.{Shape}
@@ -129,6 +130,6 @@ returns-clause-value g c =
     let inv = c.loop-words.invariant in
     let sh = c.shape_of.ensures in
     let leaf = leaf_of inv.same sh.value c.loop-words-test.false (down_some inv.down) in
-    let has : c.read_leaf.result.items ≡ leaf.xs = subst (λ z. (x : LendsLeaf z c.loop-words.part.0) → c.read_leaf.result.items ≡ x.xs) (sh.same ∙ inv.same) c.read_leaf.ensures.value leaf in
+    let has : items c.read_leaf.result ≡ leaf.xs = subst (λ z. (x : LendsLeaf z c.loop-words.part.0) → items c.read_leaf.result ≡ x.xs) (sh.same ∙ inv.same) c.read_leaf.ensures.value leaf in
     let whole : bytes inv.down.lends.rope ≡ leaf.xs = sym (text_is _ _ inv.down.lends) ∙ (text_is _ _ leaf.lends ∙ ap bytes leaf.is) in
     located inv.down leaf.xs whole _ has refl refl

@@ -1,6 +1,7 @@
 use Rattle.std.proofs.Common.{◌≡◌, ◌+◌, ◌-◌, min, length, take, sym, ap, ◌∙◌, subst, arith}
 use Rattle.std.proofs.lemmas.Bool.{eqb-true, eqb-false}
 use Rattle.rope_cells.proofs.Codes.{lends_some}
+use Rattle.rope_cells.specs.LeafBytes.{items}
 use Rattle.rope_read.specs.Text.{text}
 use Rattle.rope_read.proofs.Texts.{text_none}
 use Rattle.rope_read.proofs.Spots.{front_sum_none, prefix_is, front_min}
@@ -19,7 +20,7 @@ returns-clause-value g c =
     let n = c.min-end.result in
     let r = c.locate-spot.result in
     let t = text (g.W.Words.row c.args.words.now) c.args.p.0 in
-    let here : c.of.result ≡ sums (take (n - r.by) r.leaf.items) = c.of.ensures ∙ ap (λ z. sums (take (n - r.by) z)) c.deref.ensures.0 in
-    let whole : r.of + sums (take (n - r.by) r.leaf.items) ≡ sums (take n t) = subst (λ m. r.of + sums (take (n - r.by) r.leaf.items) ≡ sums (take n (text m c.args.p.0))) c.len.ensures.same (prefix_is c.locate-spot.ensures.value g.met.S.Sum.whole) in
+    let here : c.of.result ≡ sums (take (n - r.by) (items r.leaf)) = c.of.ensures ∙ ap (λ z. sums (take (n - r.by) z)) c.deref.ensures.0 in
+    let whole : r.of + sums (take (n - r.by) (items r.leaf)) ≡ sums (take n t) = subst (λ m. r.of + sums (take (n - r.by) (items r.leaf)) ≡ sums (take n (text m c.args.p.0))) c.len.ensures.same (prefix_is c.locate-spot.ensures.value g.met.S.Sum.whole) in
     let end : n ≡ min c.args.at (length t) = omega (arith, c.min-end.ensures, c.len.ensures.value) in
     ap (λ k. r.of + k) here ∙ (whole ∙ ap sums (ap (λ k. take k t) end ∙ front_min t c.args.at))

@@ -1,11 +1,12 @@
 use Rattle.std.proofs.Common.{◌≡◌, ◌+◌, ◌<◌, ◌≤◌, length, ap, subst, ◌∙◌, arith, below_more, [], ◌∷◌, take, get_or}
 use Rattle.std.proofs.lemmas.List.{take_more}
+use Rattle.rope_cells.specs.LeafBytes.{items}
 use Rattle.rope_read.proofs.points.reach_in.Goals as goal
 
 pub loop-k-preserved : goal.loop-k-preserved
 loop-k-preserved g c =
     let inv = c.loop-k.invariant in
-    let xs = c.args.part.now.items in
+    let xs = items c.args.part.now in
     let k = c.loop-k.k in
     let s = g.met.S.Sum in
     let byte = get_or xs k 0 ∷ [] in

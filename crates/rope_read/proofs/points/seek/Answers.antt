@@ -1,6 +1,7 @@
 use Rattle.std.proofs.Common.{◌+◌, ◌<◌, sym, ap, arith, rules}
 use Rattle.std.proofs.lemmas.Bool.{eqb-true, eqb-false}
 use Rattle.rope_cells.proofs.Codes.{lends_some}
+use Rattle.rope_cells.proofs.Packings.{items_few}
 use Rattle.rope_read.proofs.Texts.{text_none, text_few}
 use Rattle.rope_read.proofs.Spots.{sums_none, reached_is}
 use Rattle.rope_read.proofs.points.seek.Goals as goal
@@ -27,3 +28,9 @@ pub returns-clause-value : goal.returns-clause-value
 returns-clause-value g c =
     let s = g.met.S.Sum in
     reached_is g.S.Sum.sums s.whole s.small c.locate-spot.ensures.value _ c.reach_in.ensures
+
+pub overflow_cast-result : goal.overflow_cast-result
+overflow_cast-result g c =
+    let few = items_few c.locate-spot.result.leaf in
+    let within = c.reach_in.ensures.within in
+    search rules
