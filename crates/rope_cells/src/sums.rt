@@ -78,7 +78,13 @@ impl Sum for LineEnds {
     ghost known = { Prim.search rules };
 
     fn of(part: &[u8]) -> u32 {
-        part.iter().filter(|b| **b == b'\n').count() as u32
+        let mut n = 0;
+        for b in part {
+            if *b == b'\n' {
+                n += 1;
+            }
+        }
+        n
     }
 }
 

@@ -1,16 +1,15 @@
-use Rattle.std.proofs.Common.{◌≡◌, ℕ, ◌+◌, cond, Bool, true, false, List, count_by, refl, rules, arith}
-use Rattle.std.proofs.lemmas.List.Recursion.{is_count_by}
-use Rattle.spec.specs.Bytes.{is_newline}
+use Rattle.std.proofs.Common.{sym, ap, ◌∙◌, arith, take_all, rules}
 use Rattle.spec.specs.Text.{newlines}
+use Rattle.ropes.proofs.Sums.{newlines_none, newlines_more}
 use Rattle.rope_cells.proofs.sums.LineEndsSum.of.Goals as goal
 
-one_more : (b : Bool) (n : ℕ) → cond b 1 0 + n ≡ cond b (1 + n) n
-one_more true n = refl
-one_more false n = omega arith
+pub loop-b-init : goal.loop-b-init
+loop-b-init c = (sym newlines_none, omega arith)
 
-counted : (xs : List ℕ) → newlines xs ≡ count_by is_newline xs
-unfolding newlines
-counted xs = is_count_by newlines is_newline refl (λ x ys. one_more (is_newline x) (newlines ys)) xs
+pub loop-b-preserved : goal.loop-b-preserved
+loop-b-preserved c =
+    let e = newlines_more c.args.part.now c.loop-b.b-index c.loop-b-test.true in
+    search (rules, e)
 
 pub returns : goal.returns
-returns c = search (rules, counted)
+returns c = c.loop-b.invariant.0 ∙ ap newlines (take_all _ _ c.loop-b-test.false)
