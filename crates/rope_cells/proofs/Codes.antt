@@ -4,9 +4,10 @@ use Rattle.cells.specs.Tree.{none, Val, nodes}
 use Rattle.cells.specs.Have.{Lent}
 use Rattle.cells.specs.Steps.{Reading, WordRead, WordsRead}
 use Rattle.ropes.specs.Rope.{Rope, empty, leaf, node, bytes, size, height, cells, is_small, leaf_max, Octets, Whole}
-use Rattle.ropes.specs.Layout.{sums_of, sum_at, pack, node_tag, leaf_data, node_data}
+use Rattle.ropes.specs.Layout.{sums_of, sum_at, pack, digit, node_tag, leaf_data, node_data}
 use Rattle.ropes.proofs.Balance.{inner_some}
-use Rattle.ropes.proofs.Sums.{used, length_sums, sum_unused, sum_small, sum_first}
+use Rattle.ropes.proofs.Packs.{digit_pack}
+use Rattle.ropes.proofs.Sums.{used, length_sums, sum_unused, sum_small, sums_digits, sum_first}
 use Rattle.std.proofs.lemmas.List.{ext_get_or, get_or_append_left, get_or-append_right}
 use Rattle.std.proofs.lemmas.Bool.{cases_lt}
 use Rattle.rope_cells.specs.Coded.{code, tag_of}
@@ -57,16 +58,24 @@ tag_node empty w ok some is low = absurd (omega arith)
 tag_node (leaf b) w ok some is low = absurd (omega (arith, ap (λ z. z % 64) is, leaf_tag_low b ok.1, ok.1))
 tag_node (node l r) w ok some is low = (omega (arith, inner_some l ok.0), ap (λ z. z / 64) is ∙ node_tag_high _)
 
-pub tag_leaf : (t : Rope) (w : ℕ) (s : List ℕ) → Whole t → 1 ≤ height t → w ≡ tag_of t → w % 64 ≢ 63
-    → ((xs : List ℕ) → length xs ≤ leaf_max → w ≡ pack (sums_of xs) → s ≡ sums_of xs) → TagIs t (Leaf s)
-tag_leaf empty w s ok some is low back = absurd (omega arith)
-tag_leaf (leaf b) w s ok some is low back = (refl, back b ok.1 is)
-tag_leaf (node l r) w s ok some is low back = absurd (low (ap (λ z. z % 64) is ∙ node_tag_low _))
+pub tag_leaf : (t : Rope) (w : ℕ) → Whole t → 1 ≤ height t → w ≡ tag_of t → w % 64 ≢ 63 → TagIs t (Leaf w)
+tag_leaf empty w ok some is low = absurd (omega arith)
+tag_leaf (leaf b) w ok some is low = (refl, is)
+tag_leaf (node l r) w ok some is low = absurd (low (ap (λ z. z % 64) is ∙ node_tag_low _))
 
-pub small_leaf : (t : Rope) (s : List ℕ) → Whole t → height t ≡ 1 → s ≡ sums_of (bytes t) → ltb (get_or s 0 0) 24 ≡ is_small t
-small_leaf empty s ok low is = absurd (omega arith)
-small_leaf (leaf b) s ok low is = ap (λ z. ltb (get_or z 0 0) 24) is ∙ ap (λ z. ltb z 24) (sum_first b)
-small_leaf (node l r) s ok low is = absurd (omega (arith, inner_some l ok.0))
+pub leaf_few : (t : Rope) → Whole t → height t ≡ 1 → length (bytes t) ≤ leaf_max
+leaf_few empty ok low = absurd (omega arith)
+leaf_few (leaf b) ok low = ok.1
+leaf_few (node l r) ok low = absurd (omega (arith, inner_some l ok.0))
+
+-- a sum of a leaf, from its tag
+pub sum_leaf : (t : Rope) (k w v : ℕ) → Whole t → height t ≡ 1 → w ≡ pack (sums_of (bytes t)) → v ≡ digit w k → v ≡ sum_at (bytes t) k
+sum_leaf t k w v ok low is e = let few = leaf_few t ok low in e ∙ (ap (λ z. digit z k) is ∙ digit_pack (sums_of (bytes t)) k (sums_digits (bytes t) (omega arith)))
+
+pub small_leaf : (t : Rope) (w v : ℕ) → Whole t → height t ≡ 1 → w ≡ pack (sums_of (bytes t)) → v ≡ digit w 0 → ltb v 24 ≡ is_small t
+small_leaf empty w v ok low is e = absurd (omega arith)
+small_leaf (leaf b) w v ok low is e = ap (λ z. ltb z 24) (sum_leaf (leaf b) 0 w v ok low is e ∙ sum_first b)
+small_leaf (node l r) w v ok low is e = absurd (omega (arith, inner_some l ok.0))
 
 pub small_node : (t : Rope) → 2 ≤ height t → false ≡ is_small t
 small_node empty high = absurd (omega arith)

@@ -4,8 +4,8 @@ use borrow.Rule.Slice.PartMut.{put_mid}
 use Rattle.std.proofs.lemmas.Bool.{cases_lt}
 use Rattle.std.proofs.lemmas.List.{ext_get_or, get_or_append_left, get_or-append_right, get_or-take, take-append-le, drop_all, append-nil, length-reverse, get_or-reverse}
 use Rattle.std.proofs.lemmas.Grind.{get_or_default_zero}
-use Rattle.std.proofs.Math.Nat.{one-le-pow, pow-le-pow_right}
 use Rattle.std.specs.Int.{w32, to_le_bytes, from_le_bytes}
+use Rattle.spec.specs.Text.{newlines}
 use Rattle.ropes.specs.Rope.{Rope, bytes, height, leaf_max, Octets}
 use Rattle.ropes.specs.Layout.{sums_of, sum_at, word, pack, digit, byte_of, word_at, node_tag, leaf_data, node_data}
 use Rattle.ropes.proofs.Packs.{digit_pack, pack_more, pack_drop, byte_of_word_at, length_words_from, get_or_words_from}
@@ -37,18 +37,14 @@ one_digit_more xs n x tag turn so_far =
 pub digits_fit : (xs : List ℕ) (k : ℕ) → length xs ≤ 48 → pack (drop k (sums_of xs)) < 2 ^ 24
 digits_fit xs k few = omega (arith, pack_drop (sums_of xs) k, pack_small xs (omega arith))
 
--- powers that divide a word
-pub power_some : (k : ℕ) → 0 < 64 ^ k
-power_some k = one-le-pow k 64 (omega arith)
-
-pub power_fits : (k : ℕ) → k < 6 → 64 ^ k < 4294967296
-power_fits k h = let some : 0 < 64 = omega arith in omega (arith, pow-le-pow_right some {i = k} {j = 5} (omega arith))
-
--- digits that are read one by one
-pub sums_back : (tag : ℕ) (s xs : List ℕ) → length s ≡ 6 → ((j : ℕ) → j < 6 → get_or s j 0 ≡ digit tag j) → length xs ≤ leaf_max → tag ≡ pack (sums_of xs) → s ≡ sums_of xs
-sums_back tag s xs long each few is =
-    ext_get_or 0 s (sums_of xs) (long ∙ sym (length_sums xs))
-    (λ i h. each i (omega arith) ∙ (ap (λ z. digit z i) is ∙ digit_pack (sums_of xs) i (sums_digits xs (omega arith))))
+-- the digits that are used
+pub digits_back : (tag d n : ℕ) (xs : List ℕ) → d ≡ digit tag 0 → n ≡ digit tag 1 → length xs ≤ leaf_max → tag ≡ pack (sums_of xs) → (d ∷ n ∷ 0 ∷ 0 ∷ 0 ∷ 0 ∷ []) ≡ sums_of xs
+unfolding sums_of
+digits_back tag d n xs first second few is =
+    let each : (i : ℕ) → digit tag i ≡ get_or (sums_of xs) i 0 = λ i. ap (λ z. digit z i) is ∙ digit_pack (sums_of xs) i (sums_digits xs (omega arith)) in
+    let a : d ≡ length xs = first ∙ each 0 in
+    let b : n ≡ newlines xs = second ∙ each 1 in
+    ap (λ z. z ∷ n ∷ 0 ∷ 0 ∷ 0 ∷ 0 ∷ []) a ∙ ap (λ z. length xs ∷ z ∷ 0 ∷ 0 ∷ 0 ∷ 0 ∷ []) b
 
 -- the lowest digit of a leaf's tag is its length
 pub leaf_tag_low : (b : List ℕ) → length b ≤ 48 → pack (sums_of b) % 64 ≡ length b
@@ -87,7 +83,7 @@ leaf_data_is xs tag words first long each =
     each i (omega arith) ∙ sym (get_or_words_from xs 0 12 i (omega arith) ∙ ap (word_at xs) e)))
 
 -- byte i of a word, as `to_le_bytes` gives it
-le_byte : (n i : ℕ) → i < 4 → get_or (to_le_bytes w32 n) i 0 ≡ byte_of n i
+pub le_byte : (n i : ℕ) → i < 4 → get_or (to_le_bytes w32 n) i 0 ≡ byte_of n i
 unfolding byte_of
 le_byte n zero h = omega arith
 le_byte n (suc zero) h = refl
@@ -166,20 +162,23 @@ left_sum u v k =
     let f : (6 + k) - 6 ≡ k = omega arith in
     rw e (get_or-append_right (sums_of (bytes u ++ bytes v)) (sums_of (bytes u)) 6 (6 + k) 0 (length_sums (bytes u ++ bytes v)) (omega arith) ∙ ap (λ z. get_or (sums_of (bytes u)) z 0) f)
 
--- the data of a node of two ropes, by what is said of each
-pub node_data_is : (u v : Rope) (a b : Summary) (both : List ℕ) (m : ℕ) → SummaryIs u a → SummaryIs v b → m ≡ max a.height b.height → length both ≡ 6
-    → ((j : ℕ) → j < 6 → get_or both j 0 ≡ get_or a.sums j 0 + get_or b.sums j 0) → (63 + 64 * (m + 1)) ∷ (both ++ a.sums) ≡ node_data u v
+-- the data of a node of two ropes, by its height and the sums of each
+pub node_data_is : (u v : Rope) (h : ℕ) (a b both : List ℕ) → h ≡ max (height u) (height v) + 1 → a ≡ sums_of (bytes u) → b ≡ sums_of (bytes v) → length both ≡ 6
+    → ((j : ℕ) → j < 6 → get_or both j 0 ≡ get_or a j 0 + get_or b j 0) → (63 + 64 * h) ∷ (both ++ a) ≡ node_data u v
 unfolding node_data node_tag
-node_data_is u v a b both m is_u is_v top long each =
-    let h : m ≡ max (height u) (height v) = top ∙ (ap (λ z. max z b.height) is_u.high ∙ ap (max (height u)) is_v.high) in
+node_data_is u v h a b both top is_u is_v long each =
     let e : both ≡ sums_of (bytes u ++ bytes v) = ext_get_or 0 both _ (long ∙ sym (length_sums (bytes u ++ bytes v)))
     (λ j lt.
-    let p : get_or a.sums j 0 ≡ sum_at (bytes u) j = ap (λ z. get_or z j 0) is_u.sums in
-    let q : get_or b.sums j 0 ≡ sum_at (bytes v) j = ap (λ z. get_or z j 0) is_v.sums in
+    let p : get_or a j 0 ≡ sum_at (bytes u) j = ap (λ z. get_or z j 0) is_u in
+    let q : get_or b j 0 ≡ sum_at (bytes v) j = ap (λ z. get_or z j 0) is_v in
     omega (arith, p, q, each j (omega arith), sum_append (bytes u) (bytes v) j)) in
-    ap (λ z. (63 + 64 * (z + 1)) ∷ (both ++ a.sums)) h
-    ∙ (ap (λ z. (63 + 64 * (max (height u) (height v) + 1)) ∷ (z ++ a.sums)) e
-    ∙ ap (λ z. (63 + 64 * (max (height u) (height v) + 1)) ∷ (sums_of (bytes u ++ bytes v) ++ z)) is_u.sums)
+    ap (λ z. (63 + 64 * z) ∷ (both ++ a)) top
+    ∙ (ap (λ z. (63 + 64 * (max (height u) (height v) + 1)) ∷ (z ++ a)) e
+    ∙ ap (λ z. (63 + 64 * (max (height u) (height v) + 1)) ∷ (sums_of (bytes u ++ bytes v) ++ z)) is_u)
+
+-- the height of a node of two ropes, by what is said of each
+pub node_high : (u v : Rope) (a b : Summary) (m : ℕ) → SummaryIs u a → SummaryIs v b → m ≡ max a.height b.height → m + 1 ≡ max (height u) (height v) + 1
+node_high u v a b m is_u is_v top = ap (λ z. z + 1) (top ∙ (ap (λ z. max z b.height) is_u.high ∙ ap (max (height u)) is_v.high))
 
 -- two lists written over the two halves of a list behind its first element
 pub both_written : (n : ℕ) (a b rest : List ℕ) → length a ≡ n → length rest ≡ n → take n (a ++ rest) ++ (b ++ drop n (drop n (a ++ rest))) ≡ a ++ b

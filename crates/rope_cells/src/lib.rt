@@ -9,6 +9,9 @@ mod sums;
 
 pub use leaf_bytes::{LEAF_MAX, Leaf};
 pub use leaves::{LEAF_MIN, joined, read_leaf};
-pub use packed::{node_data, pack};
-pub use reading::{Shape, Shapes, Summary, left_sum, len, shape_of, shapes_of, sum, summary_of};
+pub use packed::{byte_of, digit_of, node_data, node_data_at, pack};
+pub use reading::{
+    Shape, Shapes, Summary, left_sum, left_total, len, shape_of, shapes_of, sum, summary_of,
+    tag_of, total,
+};
 pub use sums::{Bytes, LineEnds, Sum, Sums};

@@ -1,14 +1,14 @@
 //! The data words of a leaf, which are its sums as the digits of one word and its bytes four to a word, and those of a node.
 ghost use Rattle.std.specs.Prelude.{◌≡◌, ℕ, ◌+◌, ◌*◌, ◌<◌, ◌≤◌, max, List, length};
-ghost use Rattle.ropes.specs.Rope.{Rope, leaf_max, Octets};
-ghost use Rattle.ropes.specs.Layout.{sums_of, word_at, pack as packed, digit, leaf_data, node_data as data_of_node};
+ghost use Rattle.ropes.specs.Rope.{Rope, bytes, height as height_of, leaf_max, Octets};
+ghost use Rattle.ropes.specs.Layout.{sums_of, word_at, pack as packed, digit, byte_of as nth_byte, leaf_data, node_data as data_of_node};
 ghost use Rattle.rope_cells.specs.LeafBytes.{LeafIs};
 ghost use Rattle.rope_cells.specs.Packed.{Addable};
 ghost use Rattle.rope_cells.specs.Lending.{SummaryIs};
 
 use crate::leaf_bytes::{LEAF_MAX, Leaf};
 use crate::reading::{NODE, Summary};
-use crate::sums::{Sums, sums_of};
+use crate::sums::{Bytes, LineEnds, Sum, Sums, sums_of};
 use cells::Data;
 use std::array;
 
@@ -35,18 +35,28 @@ fn leaf_tag(bytes: &[u8]) -> u32
 }
 
 /// Digit `k` of a leaf's first data word.
-fn digit_of(tag: u32, k: usize) -> u32
-    requires { k < 6 }
+pub fn digit_of(tag: u32, k: usize) -> u32
     ensures { result ≡ digit tag k }
 {
-    tag / BASE.pow(k as u32) % BASE
+    let mut rest = tag;
+    for _ in 0..k {
+        rest /= BASE;
+    }
+    rest % BASE
 }
 
 /// The sums of the leaf with this first data word.
 pub fn leaf_sums(tag: u32) -> Sums
     ensures { (xs : List ℕ) → length xs ≤ leaf_max → tag ≡ packed (sums_of xs) → result ≡ sums_of xs }
 {
-    array::from_fn(|k| digit_of(tag, k))
+    [
+        digit_of(tag, Bytes::PLACE),
+        digit_of(tag, LineEnds::PLACE),
+        0,
+        0,
+        0,
+        0,
+    ]
 }
 
 /// Word `k` of some bytes, with zeros behind them.
@@ -71,6 +81,14 @@ pub fn pack(bytes: &[u8]) -> Data
     data
 }
 
+/// Byte `j` of a word.
+pub fn byte_of(word: u32, j: usize) -> u8
+    requires { j < 4 }
+    ensures { result ≡ nth_byte word j }
+{
+    word.to_le_bytes()[j]
+}
+
 /// The bytes of the leaf with these data words; behind them are zeros.
 pub fn unpack(words: &Data) -> Leaf
     ensures { (xs : List ℕ) → length xs ≤ leaf_max → Octets xs → words.now ≡ leaf_data xs → LeafIs result xs }
@@ -86,16 +104,25 @@ pub fn unpack(words: &Data) -> Leaf
     }
 }
 
+/// The data words of a node of this height whose children have these sums.
+pub fn node_data_at(height: u32, left: Sums, right: Sums) -> Data
+    requires height { height < 67108863 }
+    requires sums { Addable left right }
+    ensures { (u v : Rope) → height ≡ max (height_of u) (height_of v) + 1 → left ≡ sums_of (bytes u) → right ≡ sums_of (bytes v) → result ≡ data_of_node u v }
+{
+    let both: Sums = array::from_fn(|k| left[k] + right[k]);
+    let mut data = [0; 13];
+    data[0] = NODE + BASE * height;
+    data[SUMS..LEFT_SUMS].copy_from_slice(&both);
+    data[LEFT_SUMS..].copy_from_slice(&left);
+    data
+}
+
 /// The data words of a node of two ropes.
 pub fn node_data(left: Summary, right: Summary) -> Data
     requires heights { max left.height right.height < 67108862 }
     requires sums { Addable left.sums right.sums }
     ensures { (u v : Rope) → SummaryIs u left → SummaryIs v right → result ≡ data_of_node u v }
 {
-    let both: Sums = array::from_fn(|k| left.sums[k] + right.sums[k]);
-    let mut data = [0; 13];
-    data[0] = NODE + BASE * (left.height.max(right.height) + 1);
-    data[SUMS..LEFT_SUMS].copy_from_slice(&both);
-    data[LEFT_SUMS..].copy_from_slice(&left.sums);
-    data
+    node_data_at(left.height.max(right.height) + 1, left.sums, right.sums)
 }

@@ -1,12 +1,13 @@
 //! What a rope's cell says of it.
 ghost use Rattle.std.specs.Prelude.{◌≡◌, ◌+◌, ◌<◌, ◌≤◌};
 ghost use Rattle.ropes.specs.Rope.{bytes, size};
-ghost use Rattle.ropes.specs.Layout.{sums_of};
+ghost use Rattle.ropes.specs.Layout.{sums_of, sum_at};
+ghost use Rattle.rope_cells.specs.Coded.{tag_of as first_word};
 ghost use Rattle.rope_cells.specs.Tags.{TagIs};
 ghost use Rattle.rope_cells.specs.Lending.{Lends, LendsSome, LendsNode, LendsChildren, ShapeIs, SummaryIs};
 
 use crate::leaves::LEAF_MIN;
-use crate::packed::{BASE, LEFT_SUMS, SUMS, leaf_sums};
+use crate::packed::{BASE, LEFT_SUMS, SUMS, digit_of, leaf_sums};
 use crate::sums::{Bytes, Sum, Sums, USED};
 use cells::{Ref, data_word};
 use words::Words;
@@ -40,26 +41,34 @@ pub struct Summary {
 /// What the cell of a rope says of it in one word.
 #[derive(Clone, Copy)]
 enum Tag {
-    Leaf { sums: Sums },
+    Leaf { word: u32 },
     Node { height: u32 },
 }
 
+/// The first data word.
+pub fn tag_of<W: Words>(words: &mut W, p: Ref) -> u32
+    requires { LendsSome (W.Words.row words.old) p.0 }
+    ensures value { (x : LendsSome (W.Words.row words.old) p.0) → result ≡ first_word x.lends.rope }
+    ensures same { W.Words.row words.new ≡ W.Words.row words.old }
+    ensures touches { W.touched words.new ≤ W.touched words.old + 1 }
+{
+    data_word(words, p, 0)
+}
+
 /// What the first data word says.
-fn tag_of<W: Words>(words: &mut W, p: Ref) -> Tag
+fn told<W: Words>(words: &mut W, p: Ref) -> Tag
     requires { LendsSome (W.Words.row words.old) p.0 }
     ensures value { (x : LendsSome (W.Words.row words.old) p.0) → TagIs x.lends.rope result }
     ensures same { W.Words.row words.new ≡ W.Words.row words.old }
     ensures touches { W.touched words.new ≤ W.touched words.old + 1 }
 {
-    let word = data_word(words, p, 0);
+    let word = tag_of(words, p);
     if word % BASE == NODE {
         Tag::Node {
             height: word / BASE,
         }
     } else {
-        Tag::Leaf {
-            sums: leaf_sums(word),
-        }
+        Tag::Leaf { word }
     }
 }
 
@@ -70,10 +79,10 @@ pub fn shape_of<W: Words>(words: &mut W, p: Ref) -> Shape
     ensures same { W.Words.row words.new ≡ W.Words.row words.old }
     ensures touches { W.touched words.new ≤ W.touched words.old + 1 }
 {
-    match tag_of(words, p) {
-        Tag::Leaf { sums } => Shape {
+    match told(words, p) {
+        Tag::Leaf { word } => Shape {
             height: 1,
-            small: sums[Bytes::PLACE] < LEAF_MIN as u32,
+            small: digit_of(word, Bytes::PLACE) < LEAF_MIN as u32,
         },
         Tag::Node { height } => Shape {
             height,
@@ -117,13 +126,27 @@ pub fn summary_of<W: Words>(words: &mut W, p: Ref) -> Summary
     ensures same { W.Words.row words.new ≡ W.Words.row words.old }
     ensures touches { W.touched words.new ≤ W.touched words.old + 3 }
 {
-    match tag_of(words, p) {
-        Tag::Leaf { sums } => Summary { height: 1, sums },
+    match told(words, p) {
+        Tag::Leaf { word } => {
+            let sums = leaf_sums(word);
+            Summary { height: 1, sums }
+        }
         Tag::Node { height } => Summary {
             height,
             sums: node_sums(words, p),
         },
     }
+}
+
+/// The sum at place `k` of the left child of the node `p`.
+pub fn left_total<W: Words>(words: &mut W, p: Ref, k: usize) -> u32
+    requires node { LendsChildren (W.Words.row words.old) p.0 }
+    requires place { k < 6 }
+    ensures value { (x : LendsChildren (W.Words.row words.old) p.0) → result ≡ sum_at (bytes x.left) k }
+    ensures same { W.Words.row words.new ≡ W.Words.row words.old }
+    ensures touches { W.touched words.new ≤ W.touched words.old + 1 }
+{
+    data_word(words, p, LEFT_SUMS + k)
 }
 
 /// The sum of the left child of the node `p`.
@@ -133,7 +156,24 @@ pub fn left_sum<S: Sum, W: Words>(words: &mut W, p: Ref) -> u32
     ensures same { W.Words.row words.new ≡ W.Words.row words.old }
     ensures touches { W.touched words.new ≤ W.touched words.old + 1 }
 {
-    data_word(words, p, LEFT_SUMS + S::PLACE)
+    left_total(words, p, S::PLACE)
+}
+
+/// The sum at place `k` of the rope of `p`.
+pub fn total<W: Words>(words: &mut W, p: Ref, k: usize) -> u32
+    requires rope { Lends (W.Words.row words.old) p.0 }
+    requires place { k < 6 }
+    ensures value { (x : Lends (W.Words.row words.old) p.0) → result ≡ sum_at (bytes x.rope) k }
+    ensures same { W.Words.row words.new ≡ W.Words.row words.old }
+    ensures touches { W.touched words.new ≤ W.touched words.old + 2 }
+{
+    if p.is_none() {
+        return 0;
+    }
+    match told(words, p) {
+        Tag::Leaf { word } => digit_of(word, k),
+        Tag::Node { .. } => data_word(words, p, SUMS + k),
+    }
 }
 
 /// The sum of all bytes of the rope of `p`.
@@ -143,13 +183,7 @@ pub fn sum<S: Sum, W: Words>(words: &mut W, p: Ref) -> u32
     ensures same { W.Words.row words.new ≡ W.Words.row words.old }
     ensures touches { W.touched words.new ≤ W.touched words.old + 2 }
 {
-    if p.is_none() {
-        return 0;
-    }
-    match tag_of(words, p) {
-        Tag::Leaf { sums } => sums[S::PLACE],
-        Tag::Node { .. } => data_word(words, p, SUMS + S::PLACE),
-    }
+    total(words, p, S::PLACE)
 }
 
 /// How many bytes the rope of `p` has.

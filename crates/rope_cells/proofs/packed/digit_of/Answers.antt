@@ -1,13 +1,15 @@
-use Rattle.std.proofs.Common.{◌/◌, ◌%◌, ap, ◌∙◌, arith}
-use Rattle.ropes.proofs.Packs.{digit_is}
-use Rattle.rope_cells.proofs.Packings.{power_fits, power_some}
+use Rattle.std.proofs.Common.{◌≡◌, ◌/◌, ◌%◌, ap, ◌∙◌, arith}
+use Rattle.ropes.specs.Layout.{digit}
+use Rattle.ropes.proofs.Packs.{divided_none, divided_more, digit_is}
 use Rattle.rope_cells.proofs.packed.digit_of.Goals as goal
 
-pub pow-requires : goal.pow-requires
-pow-requires c = power_fits c.args.k c.requires
+pub loop-init : goal.loop-init
+loop-init c = divided_none c.args.tag
 
-pub nonzero_div-result : goal.nonzero_div-result
-nonzero_div-result c = let e = power_some c.args.k in omega (arith, c.pow.ensures, e)
+pub loop-preserved : goal.loop-preserved
+loop-preserved c = ap (λ z. z / 64) c.loop.invariant ∙ divided_more c.args.tag c.loop.counter
 
 pub returns : goal.returns
-returns c = ap (λ z. c.args.tag / z % 64) c.pow.ensures ∙ digit_is c.args.tag c.args.k
+returns c =
+    let e : c.loop.counter ≡ c.args.k = omega arith in
+    ap (λ z. z % 64) c.loop.invariant ∙ (digit_is c.args.tag c.loop.counter ∙ ap (digit c.args.tag) e)
