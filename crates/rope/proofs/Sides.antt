@@ -6,7 +6,7 @@ use Rattle.ropes.specs.Join.{rotate_double, rotate_left, rotate_right, balance, 
 use Rattle.ropes.specs.Costs.{rotations, steps}
 use Rattle.ropes.proofs.Balance.{Fits}
 use Rattle.ropes.proofs.Joins.{append_inner, prepend_inner, not_beside}
-use Rattle.ropes.proofs.Rotations.{append_rotations, prepend_rotations}
+use Rattle.ropes.proofs.Rotations.{append_rotations, prepend_rotations, rotations_none}
 use Rattle.ropes.proofs.Descents.{steps_down}
 use Rattle.ropes.proofs.Counts.{cells_append, cells_prepend}
 use Rattle.ropes.proofs.Cuts.{size_append, size_prepend}
@@ -33,9 +33,17 @@ pub record Level (a b : Rope) : Type 0 where
   pub low : height a ≤ height b + 1
   pub high : height b ≤ height a + 1
 
+pub inner_level : (s : Side) (a b : Rope) → Inner (node_on s a b) → Level a b
+inner_level Right a b i = record { first = i.0; second = i.1; low = i.2; high = i.3 }
+inner_level Left a b i = record { first = i.1; second = i.0; low = i.3; high = i.2 }
+
 pub level_inner : (s : Side) (a b : Rope) → Level a b → Inner (node_on s a b)
 level_inner Right a b l = (l.first, l.second, l.low, l.high)
 level_inner Left a b l = (l.second, l.first, l.high, l.low)
+
+pub level_whole : (s : Side) (a b : Rope) → Level a b → Whole (node_on s a b)
+level_whole Right a b l = (l.first, l.second, l.low, l.high)
+level_whole Left a b l = (l.second, l.first, l.high, l.low)
 
 -- whatever is higher than a leaf is a node, seen from either side
 pub record View (s : Side) (t : Rope) : Type 0 where
@@ -139,3 +147,7 @@ pub rotations_on_one : (s : Side) (a b : Rope) → height a + 1 < height b → r
 unfolding rotations
 rotations_on_one Right a b h = cond-true _ _ _ (or_right _ _ (lt-ltb _ _ h))
 rotations_on_one Left a b h = cond-true _ _ _ (or_left _ _ (lt-ltb _ _ h))
+
+pub rotations_on_none : (s : Side) (a b : Rope) → height a ≤ height b + 1 → height b ≤ height a + 1 → rotations_on s a b ≡ 0
+rotations_on_none Right a b l h = rotations_none a b l h
+rotations_on_none Left a b l h = rotations_none b a h l

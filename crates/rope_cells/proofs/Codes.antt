@@ -53,6 +53,11 @@ pub node_some : (m : List ℕ) (p : ℕ) → LendsNode m p → LendsSome m p
 node_some m p x = record { lends = x.lends; some = omega (arith, x.high) }
 
 -- a tag tells a node from a leaf
+pub tag_high : (t : Rope) (w : ℕ) → Whole t → 1 ≤ height t → w ≡ tag_of t → w % 64 ≡ 63 → 2 ≤ height t
+tag_high empty w ok some is low = absurd (omega arith)
+tag_high (leaf b) w ok some is low = absurd (omega (arith, ap (λ z. z % 64) is, leaf_tag_low b ok.1, ok.1))
+tag_high (node l r) w ok some is low = omega (arith, inner_some l ok.0)
+
 pub tag_node : (t : Rope) (w : ℕ) → Whole t → 1 ≤ height t → w ≡ tag_of t → w % 64 ≡ 63 → TagIs t (Node (w / 64))
 tag_node empty w ok some is low = absurd (omega arith)
 tag_node (leaf b) w ok some is low = absurd (omega (arith, ap (λ z. z % 64) is, leaf_tag_low b ok.1, ok.1))

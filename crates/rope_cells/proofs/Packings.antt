@@ -15,6 +15,15 @@ use Rattle.rope_cells.specs.Lending.{SummaryIs}
 use Rattle.rope_cells.specs.declared.leaf_bytes.Leaf.{Leaf}
 use Rattle.rope_cells.specs.declared.reading.Summary.{Summary}
 
+pub zeros : (j : ℕ) → ◌≡◌ {A = ℕ} (get_or (0 ∷ 0 ∷ 0 ∷ 0 ∷ 0 ∷ 0 ∷ []) j 0) 0
+zeros zero = refl
+zeros (suc zero) = refl
+zeros (suc (suc zero)) = refl
+zeros (suc (suc (suc zero))) = refl
+zeros (suc (suc (suc (suc zero)))) = refl
+zeros (suc (suc (suc (suc (suc zero))))) = refl
+zeros (suc (suc (suc (suc (suc (suc j)))))) = refl
+
 -- the digits of a leaf's tag, the highest first
 pub no_digit : (xs : List ℕ) → 0 ≡ pack (drop 6 (sums_of xs))
 unfolding pack
@@ -153,6 +162,14 @@ items_few s = let few = s.few in omega (arith, length-take s.len s.bytes)
 pub node_first : (u v : Rope) → get_or (node_data u v) 0 0 ≡ node_tag (max (height u) (height v) + 1)
 unfolding node_data
 node_first u v = refl
+
+-- the sums of a node, among its data
+pub node_sum : (u v : Rope) (k : ℕ) → k < 6 → get_or (node_data u v) (1 + k) 0 ≡ sum_at (bytes u ++ bytes v) k
+unfolding node_data
+node_sum u v k h =
+    let e : 1 + k ≡ suc k = omega arith in
+    let long = length_sums (bytes u ++ bytes v) in
+    rw e (get_or_append_left (sums_of (bytes u ++ bytes v)) (sums_of (bytes u)) 0 k (omega arith))
 
 -- the sums of a node's left child, among its data
 pub left_sum : (u v : Rope) (k : ℕ) → get_or (node_data u v) (7 + k) 0 ≡ sum_at (bytes u) k

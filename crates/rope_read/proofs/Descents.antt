@@ -3,12 +3,13 @@ use Rattle.std.proofs.Common.{◌≡◌, ℕ, ◌+◌, ◌<◌, ◌≤◌, ◌�
 use Rattle.std.proofs.lemmas.List.{append_assoc, append-nil}
 use Rattle.cells.specs.Steps.{LeftRead, RightRead}
 use Rattle.ropes.specs.Rope.{Rope, empty, leaf, node, bytes, height, Whole}
-use Rattle.ropes.specs.Layout.{node_data}
+use Rattle.ropes.specs.Layout.{node_data, sum_at}
 use Rattle.ropes.proofs.Joins.{inner_whole}
 use Rattle.ropes.proofs.Balance.{inner_some}
 use Rattle.ropes.proofs.Ends.{inner_size}
 use Rattle.ropes.proofs.Cuts.{size_bytes}
 use Rattle.ropes.proofs.Depths.{height_low}
+use Rattle.ropes.proofs.Sums.{sum_small}
 use Rattle.rope_cells.specs.Coded.{code}
 use Rattle.rope_cells.specs.LeafBytes.{items}
 use Rattle.rope_cells.specs.Lending.{Lends, LendsSome, LendsChildren}
@@ -193,3 +194,7 @@ module _ {by of : List ℕ → ℕ} {m : List ℕ} {p n q x y : ℕ} (d : Down b
             reach = omega (arith, d.reach, before_by, ap by is_node, add_by (bytes u) (bytes v));
             late = λ h. omega (arith, d.by_is, before_by);
           }
+
+-- a sum of the left child
+pub sum_bound : (m : List ℕ) (p k r : ℕ) (x : LendsChildren m p) → r ≡ sum_at (bytes x.left) k → r ≤ length (text m p)
+sum_bound m p k r x e = omega (arith, sum_small (bytes x.left) k, ap length (node_text m p x), length-append (bytes x.left) (bytes x.right))

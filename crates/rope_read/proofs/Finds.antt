@@ -1,13 +1,30 @@
 -- Where a byte stands, from where it stands in chunks.
-use Rattle.std.proofs.Common.{◌≡◌, ℕ, ◌+◌, ◌-◌, ◌<◌, ◌≤◌, List, length, get_or, take, drop, sym, ap, ◌∙◌, subst, ⊎_elim, arith, length-take}
+use Rattle.std.proofs.Common.{◌≡◌, ℕ, ◌+◌, ◌-◌, ◌<◌, ◌≤◌, ◌≢◌, List, length, get_or, take, drop, sym, ap, ◌∙◌, subst, ⊎_elim, arith, length-take}
 use Rattle.std.proofs.lemmas.List.{get_or-take, get_or-drop}
-use Rattle.std.proofs.lemmas.Bool.{cases_lt}
+use Rattle.std.proofs.lemmas.Bool.{cases_lt, cases_eq}
 use Rattle.rope_read.specs.Finding.{Absent, First, Last}
 
 module _ (t : List ℕ) (c : ℕ) where
+  pub absent_none : (a b : ℕ) → b ≤ a → Absent t a b c
+  absent_none a b h = record { nowhere = λ i l k. absurd (omega arith) }
+
+  pub absent_on : (a k : ℕ) → Absent t a k c → get_or t k 0 ≢ c → Absent t a (k + 1) c
+  absent_on a k x ne =
+      record { nowhere = λ i l less e. ⊎_elim (λ (s : i ≡ k). ne (ap (λ z. get_or t z 0) (sym s) ∙ e)) (λ (s : i ≢ k). x.nowhere i l (omega arith) e) (cases_eq i k) }
+
+  pub absent_back : (k b : ℕ) → Absent t (k + 1) b c → get_or t k 0 ≢ c → Absent t k b c
+  absent_back k b x ne =
+      record { nowhere = λ i l less e. ⊎_elim (λ (s : i ≡ k). ne (ap (λ z. get_or t z 0) (sym s) ∙ e)) (λ (s : i ≢ k). x.nowhere i (omega arith) less e) (cases_eq i k) }
+
   pub absent_join : (a k b : ℕ) → Absent t a k c → Absent t k b c → Absent t a b c
   absent_join a k b x y =
       record { nowhere = λ i l less. ⊎_elim (λ (s : i < k). x.nowhere i l s) (λ (s : k ≤ i). y.nowhere i s less) (cases_lt i k) }
+
+  pub first_is : (a b k : ℕ) → a ≤ k → k < b → Absent t a k c → get_or t k 0 ≡ c → First t a b c k
+  first_is a b k l h x e = record { from = l; inside = h; here = e; before = x.nowhere }
+
+  pub last_is : (a b k : ℕ) → a ≤ k → k < b → Absent t (k + 1) b c → get_or t k 0 ≡ c → Last t a b c k
+  last_is a b k l h x e = record { from = l; inside = h; here = e; behind = λ i less. x.nowhere i (omega arith) }
 
   -- of n bytes from a place on
   module _ (at n : ℕ) where
@@ -42,6 +59,9 @@ module _ (t : List ℕ) (c : ℕ) where
 
 pub absent_up_to : (t : List ℕ) (c a k b : ℕ) → b ≤ k → Absent t a k c → Absent t a b c
 absent_up_to t c a k b h x = record { nowhere = λ i l less. x.nowhere i l (omega arith) }
+
+pub absent_before : (t : List ℕ) (c k b a : ℕ) → k ≤ a → Absent t k b c → Absent t a b c
+absent_before t c k b a h x = record { nowhere = λ i l less. x.nowhere i (omega arith) less }
 
 -- of n bytes that were read into the front of a buffer
 module _ (t : List ℕ) (c at n : ℕ) (buffer chunk : List ℕ) (le : n ≤ length buffer) (long : length chunk ≡ length (take n buffer)) (is : chunk ≡ take (length (take n buffer)) (drop at t)) where

@@ -54,6 +54,10 @@ pub tag_price_one : (n : ℕ) → n ≡ 48 → tag_price n ≡ 1
 unfolding tag_price
 tag_price_one n e = ap (λ b. cond b 1 0) (eq-eqb n 48 e)
 
+pub tag_price_none : (n : ℕ) → n ≢ 48 → tag_price n ≡ 0
+unfolding tag_price
+tag_price_none n e = ap (λ b. cond b 1 0) (ne_eqb n 48 e)
+
 -- What the parts cost, from what the whole may cost. The part is lower than the whole.
 module _ (f n mid from k : ℕ) (left : 24 ≤ mid) (right : 24 ≤ n - mid) where
   pub price_left : (g : ℕ) → g + 1 ≤ f → from + k ≤ mid → tag_price n + 2 + price g mid from k ≤ price f n from k
