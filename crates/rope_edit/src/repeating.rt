@@ -1,5 +1,5 @@
 //! A rope many times, by doubling.
-ghost use Rattle.std.specs.Prelude.{ℕ, ◌+◌, ◌≤◌};
+ghost use Rattle.std.specs.Prelude.{◌≡◌, ℕ, ◌+◌, ◌/◌, ◌%◌, ◌≤◌, ◌==◌};
 ghost use Rattle.cells.specs.Steps.{Kept};
 ghost use Rattle.rope.specs.Building.{Two, Any};
 ghost use Rattle.rope.specs.Cutting.{One};
@@ -9,13 +9,27 @@ use cells::{NONE, Ref, or_release, release, share};
 use rope::concat;
 use words::Words;
 
+/// Whether a count is even.
+fn is_even(n: u32) -> bool
+    ensures { result ≡ (n % 2 == 0) }
+{
+    n % 2 == 0
+}
+
+/// How often two of a thing are in a count of it.
+fn half(n: u32) -> u32
+    ensures { result ≡ n / 2 }
+{
+    n / 2
+}
+
 /// The rope `before`, and `t` once behind it where `n` is odd. `t` is still held.
 fn add_odd<W: Words>(words: &mut W, before: Ref, t: Ref, n: u32) -> Option<Ref>
     requires { Two Any (W.Words.row words.old) before.0 t.0 200 }
     ensures adds { Adds n (W.Words.row words.old) (W.Words.row words.new) before.0 t.0 result (W.touched words.old) (W.touched words.new) }
     ensures kept { Kept (W.Words.row words.old) (W.Words.row words.new) }
 {
-    if n % 2 == 0 {
+    if is_even(n) {
         return Some(before);
     }
     share(words, t);
@@ -49,7 +63,7 @@ fn repeat_onto<W: Words>(words: &mut W, before: Ref, t: Ref, n: u32) -> Option<R
     let start = or_release(words, start, t)?;
     let twice = double(words, t);
     let twice = or_release(words, twice, start)?;
-    repeat_onto(words, start, twice, n / 2)
+    repeat_onto(words, start, twice, half(n))
 }
 
 /// The rope `n` times.

@@ -84,7 +84,7 @@ repeat_onto-requires g t c κs within =
     let long = rw first.released at b.kept.long in
     let second = c.in_ok-twice.ensures in
     let doubles = rw (← second.value) at twice in
-    (omega (arith, c.decreases), (within, rw second.released (half_two many a.kept.long adds long doubles c.requires)))
+    (omega (arith, c.decreases), (within, rw (c.half.ensures, second.released) (half_two many a.kept.long adds long doubles c.requires)))
 
 pub returns : goal.returns
 returns g t c =
@@ -98,7 +98,7 @@ returns g t c =
     let second = c.in_ok-twice.ensures in
     let doubles = rw (← second.value) at twice in
     let o = c.repeat_onto.ensures in
-    let last = rw (second.released, second.touches) at o.repeats in
+    let last = rw (c.half.ensures, second.released, second.touches) at o.repeats in
     record {
       repeats = repeats_half many a.kept.long adds long doubles last;
       kept = kept_on _ _ _ a.kept (kept_on _ _ _ first.kept (kept_on _ _ _ b.kept (kept_on _ _ _ second.kept o.kept)));

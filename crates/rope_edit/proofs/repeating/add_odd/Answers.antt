@@ -1,3 +1,5 @@
+use Rattle.std.proofs.Common.{sym}
+use Rattle.std.proofs.lemmas.Bool.{eqb-false}
 use Rattle.rope_edit.proofs.Repeats.{odd_sharing, odd_two, adds_once}
 use Rattle.rope_edit.proofs.repeating.add_odd.Goals as goal
 
@@ -12,4 +14,4 @@ concat-requires g c =
 pub returns-clause-adds : goal.returns-clause-adds
 returns-clause-adds g c =
     let s = c.share.ensures in
-    adds_once s.shared s.kept.long _ s.touches c.if-n-eq0.false c.concat.ensures.joins
+    adds_once s.shared s.kept.long _ s.touches (eqb-false _ _ (sym c.if-is_even.ensures)) c.concat.ensures.joins
