@@ -1,5 +1,5 @@
 //! The leaf of a rope in which a sum is reached, with its bytes and what is summed before it.
-ghost use Rattle.std.specs.Prelude.{◌≡◌, ◌+◌, ◌≤◌};
+ghost use Rattle.std.specs.Prelude.{◌≡◌, ◌+◌, ◌≤◌, nat_le};
 ghost use Rattle.rope_cells.specs.Lending.{LendsSome};
 ghost use Rattle.rope_read.specs.Text.{text};
 ghost use Rattle.rope_read.specs.Locating.{Located};
@@ -16,6 +16,13 @@ pub struct Spot {
     pub of: u32,
 }
 
+/// Whether the sum `n` is reached where the bytes sum to `up_to`.
+fn is_reached(n: u32, up_to: u32) -> bool
+    ensures { result ≡ nat_le n up_to }
+{
+    n <= up_to
+}
+
 /// The leaf of the rope `p` up to whose end the sum `By` is `n` or more, and before which it is less.
 pub fn locate<By: Sum, Of: Sum, W: Words>(words: &mut W, p: Ref, n: u32) -> Spot
     requires rope { LendsSome (W.Words.row words.old) p.0 }
@@ -29,7 +36,7 @@ pub fn locate<By: Sum, Of: Sum, W: Words>(words: &mut W, p: Ref, n: u32) -> Spot
     let mut of = 0;
     while shape_of(words, part).height > 1 {
         let up_to = by + left_sum::<By, W>(words, part);
-        if n <= up_to {
+        if is_reached(n, up_to) {
             part = left(words, part);
         } else {
             by = up_to;

@@ -1,5 +1,5 @@
 //! The byte at a place, the sum of the bytes before a place, and the place at which a sum is reached.
-ghost use Rattle.std.specs.Prelude.{◌≡◌, ◌+◌, ◌<◌, ◌≤◌, length, take, slice_index};
+ghost use Rattle.std.specs.Prelude.{◌≡◌, ◌+◌, ◌<◌, ◌≤◌, length, take, drop, slice_index};
 ghost use Rattle.rope_cells.specs.LeafBytes.{items};
 ghost use Rattle.rope_cells.specs.Lending.{Lends};
 ghost use Rattle.rope_read.specs.Text.{text};
@@ -11,6 +11,30 @@ use cells::Ref;
 use rope_cells::{Bytes, Leaf, Sum};
 use words::Words;
 
+/// Byte `i` of a leaf.
+fn byte_in(leaf: &Leaf, i: usize) -> u8
+    requires { i < length (items leaf.now) }
+    ensures { result ≡ slice_index (items leaf.now) i }
+{
+    leaf[i]
+}
+
+/// The sum of the first `n` bytes of a leaf.
+fn front_sum<S: Sum>(leaf: &Leaf, n: usize) -> u32
+    requires { n ≤ length (items leaf.now) }
+    ensures { result ≡ S.Sum.sums (take n (items leaf.now)) }
+{
+    S::of(&leaf[..n])
+}
+
+/// The sum of byte `k` of some bytes.
+fn sum_at<S: Sum>(part: &[u8], k: usize) -> u32
+    requires { k < length part.now }
+    ensures { result ≡ S.Sum.sums (take 1 (drop k part.now)) }
+{
+    S::of(&part[k..k + 1])
+}
+
 /// The byte at place `at` of the rope `p`.
 pub fn byte_at<W: Words>(words: &mut W, p: Ref, at: u32) -> u8
     requires rope { Lends (W.Words.row words.old) p.0 }
@@ -20,7 +44,7 @@ pub fn byte_at<W: Words>(words: &mut W, p: Ref, at: u32) -> u8
     ensures touches { W.touched words.new ≤ W.touched words.old + 160 }
 {
     let spot = locate::<Bytes, Bytes, W>(words, p, at + 1);
-    spot.leaf[(at - spot.by) as usize]
+    byte_in(&spot.leaf, (at - spot.by) as usize)
 }
 
 /// The sum of the bytes of the rope `p` before place `at`.
@@ -35,7 +59,7 @@ pub fn prefix<S: Sum, W: Words>(words: &mut W, p: Ref, at: u32) -> u32
     }
     let end = at.min(len(words, p));
     let spot = locate::<Bytes, S, W>(words, p, end);
-    spot.of + S::of(&spot.leaf[..(end - spot.by) as usize])
+    spot.of + front_sum::<S>(&spot.leaf, (end - spot.by) as usize)
 }
 
 /// The least number of bytes at the front of `part` that sum to `n`.
@@ -44,11 +68,11 @@ fn reach_in<S: Sum>(part: &Leaf, n: u32) -> usize
     ensures { Reached S.Sum.sums (items part.now) n result }
 {
     let mut sum = 0;
-    for (k, byte) in part.iter().enumerate() {
+    for k in 0..part.len() {
         if sum == n {
             return k;
         }
-        sum += S::of(&[*byte]);
+        sum += sum_at::<S>(part, k);
     }
     part.len()
 }

@@ -1,6 +1,7 @@
 //! The bytes of a range of a rope, leaf by leaf. A path down the rope is gone at each end of the range, and nowhere else.
 ghost use Rattle.std.specs.Prelude.{◌≡◌, ◌+◌, ◌<◌, ◌≤◌, length, take, drop, ◌==◌};
 ghost use Rattle.ropes.specs.Rope.{height};
+ghost use Rattle.rope_cells.specs.LeafBytes.{items};
 ghost use Rattle.rope_cells.specs.Lending.{Lends};
 ghost use Rattle.rope_cells.specs.Leaves.{LendsLeaf};
 ghost use Rattle.rope_read.specs.Text.{text};
@@ -8,7 +9,7 @@ ghost use Rattle.rope_read.specs.Ranges.{Sized, tag_price, price};
 
 use crate::totals::len;
 use cells::{Ref, left, right};
-use rope_cells::{Bytes, LEAF_MIN, left_sum, read_leaf, shape_of};
+use rope_cells::{Bytes, LEAF_MIN, Leaf, left_sum, read_leaf, shape_of};
 use words::Words;
 
 /// How many bytes two leaves have at least.
@@ -28,6 +29,14 @@ fn is_leaf<W: Words>(words: &mut W, p: Ref, size: u32) -> bool
     }
 }
 
+/// Copies the bytes of a leaf from index `from` on.
+fn copy_part(leaf: &Leaf, from: usize, into: &mut [u8])
+    requires { from + length into.old ≤ length (items leaf.now) }
+    ensures { into.new ≡ take (length into.old) (drop from (items leaf.now)) }
+{
+    into.copy_from_slice(&leaf[from..from + into.len()]);
+}
+
 /// Reads the bytes of the leaf `p` from place `from` on.
 fn read_in_leaf<W: Words>(words: &mut W, p: Ref, from: usize, into: &mut [u8])
     requires rope { LendsLeaf (W.Words.row words.old) p.0 }
@@ -37,7 +46,7 @@ fn read_in_leaf<W: Words>(words: &mut W, p: Ref, from: usize, into: &mut [u8])
     ensures touches { W.touched words.new ≤ W.touched words.old + 13 }
 {
     let leaf = read_leaf(words, p);
-    into.copy_from_slice(&leaf[from..from + into.len()]);
+    copy_part(&leaf, from, into);
 }
 
 /// Reads the bytes of a rope of `size` bytes from place `from` on.

@@ -1,4 +1,5 @@
 use Rattle.std.proofs.Common.{◌≡◌, ℕ, ◌<◌, ◌≤◌, List, sym, refl, ap, ◌∙◌, subst, arith, rules}
+use Rattle.std.proofs.lemmas.Bool.{leb-true, leb-false}
 use Rattle.cells.specs.Steps.{LeftRead, RightRead}
 use Rattle.ropes.specs.Rope.{bytes, height}
 use Rattle.rope_cells.specs.LeafBytes.{items}
@@ -40,8 +41,8 @@ overflow_add-up_to g c =
     let few = text_few _ _ c.requires.rope.lends in
     search rules
 
-pub loop-words-smaller-then-n-up_to : goal.loop-words-smaller-then-n-up_to
-loop-words-smaller-then-n-up_to g c =
+pub loop-words-smaller-then-is_reached : goal.loop-words-smaller-then-is_reached
+loop-words-smaller-then-is_reached g c =
     let row = g.W.Words.row in
     let m = row c.args.words.now in
     let inv = c.loop-words.invariant in
@@ -51,8 +52,8 @@ loop-words-smaller-then-n-up_to g c =
     let read : LeftRead m c.loop-words.part.0 c.left-part.result.0 = rw same at c.left-part.ensures.lent in
     rw (c.left-part.ensures.same ∙ same, inv.same) (left_shorter inv.down node read)
 
-pub loop-words-preserved-then-n-up_to : goal.loop-words-preserved-then-n-up_to
-loop-words-preserved-then-n-up_to g c =
+pub loop-words-preserved-then-is_reached : goal.loop-words-preserved-then-is_reached
+loop-words-preserved-then-is_reached g c =
     let row = g.W.Words.row in
     let m = row c.args.words.now in
     let inv = c.loop-words.invariant in
@@ -64,7 +65,7 @@ loop-words-preserved-then-n-up_to g c =
     let is = sum_of g.By.Sum.sums (sh.same ∙ inv.same) by.value node.children in
     record {
       same = c.left-part.ensures.same ∙ same;
-      down = down_left inv.down node read (omega (arith, is, c.if-n-up_to.true));
+      down = down_left inv.down node read (omega (arith, is, leb-true _ _ (sym c.if-is_reached.ensures)));
       cost = omega (arith, inv.cost, sh.touches, by.touches, c.left-part.ensures.touches, left_lower inv.down node read);
     }
 
@@ -111,7 +112,7 @@ loop-words-preserved g c =
     let is_of = sum_of g.Of.Sum.sums mid of.value node.children in
     record {
       same = c.right-part.ensures.same ∙ same;
-      down = down_right inv.down node read g.met.By.Sum.whole g.met.Of.Sum.whole is_by is_of c.if-n-up_to.false;
+      down = down_right inv.down node read g.met.By.Sum.whole g.met.Of.Sum.whole is_by is_of (leb-false _ _ (sym c.if-is_reached.ensures));
       cost = omega (arith, inv.cost, sh.touches, by.touches, of.touches, c.right-part.ensures.touches, right_lower inv.down node read);
     }
 

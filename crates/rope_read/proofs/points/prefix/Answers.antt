@@ -20,7 +20,7 @@ returns-clause-value g c =
     let n = c.min-end.result in
     let r = c.locate-spot.result in
     let t = text (g.W.Words.row c.args.words.now) c.args.p.0 in
-    let here : c.of.result ≡ sums (take (n - r.by) (items r.leaf)) = c.of.ensures ∙ ap (λ z. sums (take (n - r.by) z)) c.deref.ensures.0 in
+    let here : c.front_sum.result ≡ sums (take (n - r.by) (items r.leaf)) = c.front_sum.ensures in
     let whole : r.of + sums (take (n - r.by) (items r.leaf)) ≡ sums (take n t) = subst (λ m. r.of + sums (take (n - r.by) (items r.leaf)) ≡ sums (take n (text m c.args.p.0))) c.len.ensures.same (prefix_is c.locate-spot.ensures.value g.met.S.Sum.whole) in
     let end : n ≡ min c.args.at (length t) = omega (arith, c.min-end.ensures, c.len.ensures.value) in
     ap (λ k. r.of + k) here ∙ (whole ∙ ap sums (ap (λ k. take k t) end ∙ front_min t c.args.at))

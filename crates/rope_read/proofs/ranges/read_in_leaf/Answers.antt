@@ -1,27 +1,18 @@
-use Rattle.std.proofs.Common.{◌≡◌, ◌+◌, ◌-◌, length, take, drop, sym, ap, ◌∙◌, arith, rules}
+use Rattle.std.proofs.Common.{◌≡◌, length, take, drop, sym, ap, ◌∙◌}
 use Rattle.ropes.specs.Rope.{bytes}
+use Rattle.rope_cells.specs.LeafBytes.{items}
 use Rattle.rope_read.specs.Text.{text}
-use Rattle.rope_read.proofs.Texts.{text_is, text_few}
+use Rattle.rope_read.proofs.Texts.{text_is}
 use Rattle.rope_read.proofs.ranges.read_in_leaf.Goals as goal
 
-pub overflow_add-from : goal.overflow_add-from
-overflow_add-from g c =
-    let inside = c.requires.inside in
-    let few = text_few _ _ c.requires.rope.lends in
-    search rules
-
-pub slice_bounds-copy_from_slice-end : goal.slice_bounds-copy_from_slice-end
-slice_bounds-copy_from_slice-end g c =
+pub copy_part-requires : goal.copy_part-requires
+copy_part-requires g c =
     let x = c.requires.rope in
-    let inside = c.requires.inside in
-    let is : length (text (g.W.Words.row c.args.words.now) c.args.p.0) ≡ length c.deref.result.now = ap length (text_is _ _ x.lends ∙ (ap bytes x.is ∙ sym (c.deref.ensures.0 ∙ c.read_leaf-leaf.ensures.value x))) in
-    search rules
+    let is : text (g.W.Words.row c.args.words.now) c.args.p.0 ≡ items c.read_leaf-leaf.result = text_is _ _ x.lends ∙ (ap bytes x.is ∙ sym (c.read_leaf-leaf.ensures.value x)) in
+    rw (← is) c.requires.inside
 
 pub returns-clause-value : goal.returns-clause-value
 returns-clause-value g c =
     let x = c.requires.rope in
-    let n = length c.args.into.now in
-    let from = c.args.from in
-    let e : from + n - from ≡ n = omega arith in
-    let is : c.deref.result.now ≡ text (g.W.Words.row c.args.words.now) c.args.p.0 = c.deref.ensures.0 ∙ (c.read_leaf-leaf.ensures.value x ∙ sym (text_is _ _ x.lends ∙ ap bytes x.is)) in
-    c.copy_from_slice.ensures.after ∙ (ap (λ k. take k (drop from c.deref.result.now)) e ∙ ap (λ z. take n (drop from z)) is)
+    let is : items c.read_leaf-leaf.result ≡ text (g.W.Words.row c.args.words.now) c.args.p.0 = c.read_leaf-leaf.ensures.value x ∙ sym (text_is _ _ x.lends ∙ ap bytes x.is) in
+    c.copy_part.ensures ∙ ap (λ z. take (length c.args.into.now) (drop c.args.from z)) is
