@@ -38,6 +38,7 @@ impl DerefSlice for Leaf {
 
     ghost deref_gives = { λ s xs. (xs ≡ items s) × (length xs ≤ 48) };
 
+    #[tactic(auto, using(crate::proofs::Packings::items_are, crate::proofs::Packings::items_few))]
     fn deref(&self) -> &[u8] {
         &self.bytes[..self.len]
     }

@@ -35,6 +35,7 @@ fn leaf_tag(bytes: &[u8]) -> u32
 }
 
 /// Digit `k` of a leaf's first data word.
+#[tactic(auto, using(ropes::proofs::Packs::digit_is))]
 pub fn digit_of(tag: u32, k: usize) -> u32
     ensures { result ≡ digit tag k }
 {
@@ -82,6 +83,7 @@ pub fn pack(bytes: &[u8]) -> Data
 }
 
 /// Byte `j` of a word.
+#[tactic(auto, using(crate::proofs::Packings::le_byte))]
 pub fn byte_of(word: u32, j: usize) -> u8
     requires { j < 4 }
     ensures { result ≡ nth_byte word j }

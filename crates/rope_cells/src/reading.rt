@@ -46,6 +46,7 @@ enum Tag {
 }
 
 /// The first data word.
+#[tactic(auto, using(crate::proofs::Codes::tag_read))]
 pub fn tag_of<W: Words>(words: &mut W, p: Ref) -> u32
     requires { LendsSome (W.Words.row words.old) p.0 }
     ensures value { (x : LendsSome (W.Words.row words.old) p.0) → result ≡ first_word x.lends.rope }
@@ -139,6 +140,7 @@ pub fn summary_of<W: Words>(words: &mut W, p: Ref) -> Summary
 }
 
 /// The sum at place `k` of the left child of the node `p`.
+#[tactic(auto, using(crate::proofs::Codes::left_sum_read))]
 pub fn left_total<W: Words>(words: &mut W, p: Ref, k: usize) -> u32
     requires node { LendsChildren (W.Words.row words.old) p.0 }
     requires place { k < 6 }

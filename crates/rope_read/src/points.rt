@@ -29,7 +29,8 @@ fn front_sum<S: Sum>(leaf: &Leaf, n: usize) -> u32
 
 /// The sum of byte `k` of some bytes.
 fn sum_at<S: Sum>(part: &[u8], k: usize) -> u32
-    requires { k < length part.now }
+    requires inside { k < length part.now }
+    requires few { length part.now ≤ 48 }
     ensures { result ≡ S.Sum.sums (take 1 (drop k part.now)) }
 {
     S::of(&part[k..k + 1])

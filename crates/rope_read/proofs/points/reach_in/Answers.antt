@@ -4,7 +4,7 @@ use Rattle.rope_cells.specs.LeafBytes.{items}
 use Rattle.rope_read.proofs.points.reach_in.Goals as goal
 
 pub sum_at-sum-requires : goal.sum_at-sum-requires
-sum_at-sum-requires g c = rw c.deref.ensures.0 (omega (arith, c.len-k-end.ensures.value, c.loop-k-test.true))
+sum_at-sum-requires g c = record { inside = rw c.deref.ensures.0 (omega (arith, c.len-k-end.ensures.value, c.loop-k-test.true)); few = c.deref.ensures.1 }
 
 pub loop-k-preserved : goal.loop-k-preserved
 loop-k-preserved g c =
