@@ -12,6 +12,8 @@ use crate::writer::{ByteWriter, write_bytes};
 pub const ROW_EXTRA: usize = 16;
 
 /// Writes an update of a row, with the cursor at `at`, and says where the cursor is then.
+// Inlined, so that the writer's count need not go to memory at each byte.
+#[inline(always)]
 pub fn write_update<W: ByteWriter>(
     writer: &mut W,
     at: Position,
