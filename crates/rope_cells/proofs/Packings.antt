@@ -5,7 +5,6 @@ use Rattle.std.proofs.lemmas.Bool.{cases_lt}
 use Rattle.std.proofs.lemmas.List.{ext_get_or, get_or_append_left, get_or-append_right, get_or-take, take-append-le, drop_all, append-nil, length-reverse, get_or-reverse}
 use Rattle.std.proofs.lemmas.Grind.{get_or_default_zero}
 use Rattle.std.specs.Int.{w32, to_le_bytes, from_le_bytes}
-use Rattle.spec.specs.Text.{newlines}
 use Rattle.ropes.specs.Rope.{Rope, bytes, height, leaf_max, Octets}
 use Rattle.ropes.specs.Layout.{sums_of, sum_at, word, pack, digit, byte_of, word_at, node_tag, leaf_data, node_data}
 use Rattle.ropes.proofs.Packs.{digit_pack, pack_more, pack_drop, byte_of_word_at, length_words_from, get_or_words_from}
@@ -46,14 +45,9 @@ one_digit_more xs n x tag turn so_far =
 pub digits_fit : (xs : List ℕ) (k : ℕ) → length xs ≤ 48 → pack (drop k (sums_of xs)) < 2 ^ 24
 digits_fit xs k few = omega (arith, pack_drop (sums_of xs) k, pack_small xs (omega arith))
 
--- the digits that are used
-pub digits_back : (tag d n : ℕ) (xs : List ℕ) → d ≡ digit tag 0 → n ≡ digit tag 1 → length xs ≤ leaf_max → tag ≡ pack (sums_of xs) → (d ∷ n ∷ 0 ∷ 0 ∷ 0 ∷ 0 ∷ []) ≡ sums_of xs
-unfolding sums_of
-digits_back tag d n xs first second few is =
-    let each : (i : ℕ) → digit tag i ≡ get_or (sums_of xs) i 0 = λ i. ap (λ z. digit z i) is ∙ digit_pack (sums_of xs) i (sums_digits xs (omega arith)) in
-    let a : d ≡ length xs = first ∙ each 0 in
-    let b : n ≡ newlines xs = second ∙ each 1 in
-    ap (λ z. z ∷ n ∷ 0 ∷ 0 ∷ 0 ∷ 0 ∷ []) a ∙ ap (λ z. length xs ∷ z ∷ 0 ∷ 0 ∷ 0 ∷ 0 ∷ []) b
+-- a digit of a leaf's tag is the sum at its place
+pub digit_sum : (tag : ℕ) (xs : List ℕ) → length xs ≤ leaf_max → tag ≡ pack (sums_of xs) → (i : ℕ) → digit tag i ≡ sum_at xs i
+digit_sum tag xs few is i = ap (λ z. digit z i) is ∙ digit_pack (sums_of xs) i (sums_digits xs (omega arith))
 
 -- the lowest digit of a leaf's tag is its length
 pub leaf_tag_low : (b : List ℕ) → length b ≤ 48 → pack (sums_of b) % 64 ≡ length b

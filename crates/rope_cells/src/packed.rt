@@ -8,7 +8,7 @@ ghost use Rattle.rope_cells.specs.Lending.{SummaryIs};
 
 use crate::leaf_bytes::{LEAF_MAX, Leaf};
 use crate::reading::{NODE, Summary};
-use crate::sums::{Bytes, LineEnds, Sum, Sums, sums_of};
+use crate::sums::{Sums, USED, sums_of};
 use cells::Data;
 use std::array;
 
@@ -50,14 +50,11 @@ pub fn digit_of(tag: u32, k: usize) -> u32
 pub fn leaf_sums(tag: u32) -> Sums
     ensures { (xs : List ℕ) → length xs ≤ leaf_max → tag ≡ packed (sums_of xs) → result ≡ sums_of xs }
 {
-    [
-        digit_of(tag, Bytes::PLACE),
-        digit_of(tag, LineEnds::PLACE),
-        0,
-        0,
-        0,
-        0,
-    ]
+    let mut sums = [0; 6];
+    for (k, sum) in sums[..USED].iter_mut().enumerate() {
+        *sum = digit_of(tag, k);
+    }
+    sums
 }
 
 /// Word `k` of some bytes, with zeros behind them.
